@@ -1,0 +1,212 @@
+-- Sizes of a diagram's sets that respect its bounds and limits, and what each limit says of them.
+use Prim.Native.Nat.{ℕ, suc, _+_, _*_, _/_, _≤_, _<_}
+use mathlib.Core.Path.{_≡_, refl, sym, ap, _∙_}
+use mathlib.Core.Logic.{⊎-elim}
+use mathlib.Core.Bool.{Bool, true, not}
+use mathlib.Core.List.{List, [], _∷_, _++_, map, flatMap, flatten, List·Memᴰ·head as here, List·Memᴰ·tail as there, List·Memᴰ·append-cases, Memᴰ·append-left, Memᴰ·append-right, Memᴰ·of-map}
+use native.Mathlib.Nat.{le-trans, mul-one, zero-add}
+use native.Mathlib.Omega.{arith}
+use borrow.Author.Tests.{eq-eqb, ne-eqb}
+use lib.ListN.{length, getD, length-append, length-map}
+use Rattle.counting.specs.Laws.Index.{At, at-append-left, at-append-right, at-below, at-getD, at-in, at-map, at-mapFrom, each-from-at, in-at}
+use Rattle.counting.specs.Lists.{mapFrom}
+use Rattle.counting.specs.Laws.Members.{getD-in, in-flatMap, in-flatten}
+use Rattle.counting.specs.Laws.Range.{in-upFrom, of-upFrom}
+use Rattle.counting.specs.Terms.{_∈_}
+use Rattle.counting.specs.Totals.{productOver, sumOver}
+use Rattle.fixpoint.specs.Limits.{Limit, valueOf}
+use Rattle.fixpoint.specs.Notions.{_≼_, Holds, Satisfies}
+use Rattle.orm.specs.Diagram.{Diagram, Frequency, ObjectType, Predicate, Role, allGroups, allRoles, index, isGrouped, isIndependent, isMandatory, isRoot}
+use Rattle.orm.specs.Populate.{size}
+use Rattle.orm.specs.Sets.{Part, Placed, atMost, firstGroup, firstPred, firstRole, groupRoles, groupSet, limitOfRows, limits, limitsOfGroup, limitsOfPred, limitsOfRole, limitsOfType, lower, onlyIf, parts, placed, rolesOfType, upper, upperOfType}
+use Rattle.orm.specs.WellFormed.{PredForm, TypeForm, WellFormed}
+use Rattle.complete.specs.Place.{group-sets, groupSets, placed-at, role-sets, roleSets}
+
+-- The sizes `c` are between the bounds of a well-formed diagram and satisfy its limits
+pub record Solved (d : Diagram) (c : List ℕ) : Type 0 where
+  pub form : WellFormed d
+  pub above : lower d ≼ c
+  pub below : c ≼ upper d
+  pub satisfied : Satisfies (limits d) c
+
+-- `lower` and `upper` are such lists
+module _ (f : ObjectType → ℕ) (g : Predicate → ℕ) (n : ℕ) (d : Diagram) where
+  abbrev bounds : List ℕ
+  bounds = map f (d .types) ++ map g (d .preds) ++ map (λ (r : Role). n) (allRoles d) ++ map (λ (q : Frequency). n) (allGroups d)
+
+  bounds-type : {a : ℕ} {t : ObjectType} → At t (d .types) a → getD bounds a 0 ≡ f t
+  bounds-type h =
+      at-getD {A = ℕ} 0 (at-append-left (map (λ (q : Frequency). n) (allGroups d))
+      (at-append-left (map (λ (r : Role). n) (allRoles d)) (at-append-left (map g (d .preds)) (at-map f h))))
+
+  bounds-pred : {k : ℕ} {p : Predicate} → At p (d .preds) k → getD bounds (length (d .types) + k) 0 ≡ g p
+  bounds-pred {k} h =
+      rw (← length-map (d .types) f)
+      (at-getD {A = ℕ} 0 (at-append-left (map (λ (q : Frequency). n) (allGroups d))
+      (at-append-left (map (λ (r : Role). n) (allRoles d)) (at-append-right (map f (d .types)) (at-map g h)))))
+
+pub group-set : (x : Placed) (k : ℕ) → groupSet x (1 + k) ≡ x .groups + k
+unfolding groupSet
+group-set x k = omega arith
+
+in-onlyIf : (b : Bool) (l : Limit) → b ≡ true → l ∈ onlyIf b l
+unfolding onlyIf
+in-onlyIf b l e = rw e (here refl)
+
+module _ {d : Diagram} {c : List ℕ} (s : Solved d c) where
+  -- ---- bounds
+
+  pub type-form : {a : ℕ} {t : ObjectType} → At t (d .types) a → TypeForm (1 + a) t
+  type-form h = each-from-at TypeForm 1 (s .form .types) h
+
+  pub count : length c ≡ length (d .types) + length (d .preds) + length (allRoles d) + length (allGroups d)
+  unfolding lower
+  count = sym (s .above .sized) ∙ simp (length-append, length-map)
+
+  lower-positive : (v : ℕ) → v ∈ lower d → 1 ≤ v
+  unfolding lower
+  lower-positive v m =
+      ⊎-elim (λ k. ⊎-elim (λ k. ⊎-elim of-type of-pred (List·Memᴰ·append-cases _ k)) (of-one (allRoles d)) (List·Memᴰ·append-cases _ k))
+      (of-one (allGroups d)) (List·Memᴰ·append-cases _ m)
+    where
+      of-type : v ∈ map (λ (t : ObjectType). t .min) (d .types) → 1 ≤ v
+      of-type k =
+          let (t, l, e) = Memᴰ·of-map _ (d .types) k in
+          omega (arith, type-form (in-at l .1) .some)
+
+      of-pred : v ∈ map (λ (p : Predicate). p .min) (d .preds) → 1 ≤ v
+      of-pred k =
+          let (p, l, e) = Memᴰ·of-map _ (d .preds) k in
+          omega (arith, s .form .preds p l .some)
+
+      of-one : {A : Type 0} (xs : List A) → v ∈ map (λ (x : A). 1) xs → 1 ≤ v
+      of-one xs k = omega (arith, Memᴰ·of-map _ xs k .2)
+
+  positive : (i : ℕ) → i < length c → 0 < size c i
+  positive i h = le-trans (lower-positive _ (getD-in (lower d) i 0 (rw (s .above .sized) h))) (s .above .entry i)
+
+  pub type-least : {a : ℕ} {t : ObjectType} → At t (d .types) a → t .min ≤ size c a
+  unfolding lower
+  type-least {a} h = rw (bounds-type (λ t. t .min) (λ p. p .min) 1 d h) at (s .above .entry a)
+
+  pub type-most : {a : ℕ} {t : ObjectType} → At t (d .types) a → size c a ≤ upperOfType t
+  unfolding upper
+  type-most {a} h = rw (bounds-type upperOfType (λ p. p .max) 4096 d h) at (s .below .entry a)
+
+  -- ---- limits of a type
+
+  type-limit : {a : ℕ} {t : ObjectType} (l : Limit) → At t (d .types) a → l ∈ limitsOfType d a t → Holds c l
+  unfolding limits
+  type-limit {a} l h m =
+      s .satisfied l (Memᴰ·append-right (flatMap limitsOfPred (placed d))
+      (in-flatten (at-in (at-mapFrom (limitsOfType d) 0 h refl)) (rw (zero-add a) m)))
+
+  pub type-super : {a : ℕ} {t : ObjectType} → At t (d .types) a → ¬ (t .super ≡ 0) → size c a ≤ size c (index (t .super))
+  unfolding limitsOfType isRoot atMost valueOf productOver
+  type-super {a} {t} h n =
+      rw mul-one at (type-limit (atMost a (index (t .super))) h (Memᴰ·append-left _ (in-onlyIf _ _ (rw (ne-eqb (t .super) 0 n)))))
+
+  pub type-sum : {a : ℕ} {t : ObjectType} → At t (d .types) a → ¬ (t .indep ≡ 1) → size c a ≤ sumOver (size c) (rolesOfType d (suc a))
+  unfolding limitsOfType isIndependent valueOf
+  type-sum {a} {t} h n =
+      type-limit _ h (Memᴰ·append-right (onlyIf (not (isRoot t)) (atMost a (index (t .super)))) (in-onlyIf _ _ (ap not (ne-eqb (t .indep) 1 n))))
+
+  -- ---- bounds and limits of a predicate
+
+  module _ {x : Placed} (m : x ∈ placed d) where
+    own-number : (k : ℕ) × At (x .predicate) (d .preds) k × (x .own ≡ length (d .types) + k)
+    unfolding placed firstPred
+    own-number = placed-at _ _ _ (d .preds) m
+
+    pub pred-form : PredForm (length (d .types)) (x .predicate)
+    pred-form = s .form .preds (x .predicate) (at-in (own-number .1))
+
+    pub own-least : x .predicate .min ≤ size c (x .own)
+    unfolding lower
+    own-least =
+        let (k, h, e) = own-number in
+        rw e (rw (bounds-pred (λ t. t .min) (λ p. p .min) 1 d h) at (s .above .entry (length (d .types) + k)))
+
+    pub own-most : size c (x .own) ≤ x .predicate .max
+    unfolding upper
+    own-most =
+        let (k, h, e) = own-number in
+        rw e (rw (bounds-pred upperOfType (λ p. p .max) 4096 d h) at (s .below .entry (length (d .types) + k)))
+
+    pub own-positive : 0 < size c (x .own)
+    own-positive = omega (arith, pred-form .some, own-least)
+
+    pub role-positive : {j : ℕ} {r : Role} → At r (x .predicate .roles) j → 0 < size c (x .roles + j)
+    unfolding placed firstRole firstPred allRoles
+    role-positive {j} h =
+        let e = role-sets (firstPred d) (firstRole d) (firstGroup d) (d .preds) in
+        let k : x .roles + j ∈ flatMap roleSets (placed d) = in-flatMap roleSets m (in-upFrom _ _ (omega arith) (omega (arith, at-below h))) in
+        positive (x .roles + j) (omega (arith, count, of-upFrom _ _ (rw e at k)))
+
+    pub group-positive : {k : ℕ} {f : Frequency} → At f (x .predicate .groups) k → 0 < size c (groupSet x (1 + k))
+    unfolding placed firstGroup firstRole firstPred allRoles allGroups
+    group-positive {k} h =
+        let e = group-sets (firstPred d) (firstRole d) (firstGroup d) (d .preds) in
+        let l : x .groups + k ∈ flatMap groupSets (placed d) = in-flatMap groupSets m (in-upFrom _ _ (omega arith) (omega (arith, at-below h))) in
+        rw (group-set x k) (positive (x .groups + k) (omega (arith, count, of-upFrom _ _ (rw e at l))))
+
+    pred-limit : (l : Limit) → l ∈ limitsOfPred x → Holds c l
+    unfolding limits
+    pred-limit l k = s .satisfied l (Memᴰ·append-left _ (in-flatMap limitsOfPred m k))
+
+    roleLimits : List Limit
+    roleLimits = flatten (mapFrom (limitsOfRole x) (x .roles) (x .predicate .roles))
+
+    groupLimits : List Limit
+    groupLimits = flatten (mapFrom (limitsOfGroup x) 1 (x .predicate .groups))
+
+    pub own-product : size c (x .own) ≤ productOver (size c) (map (λ (b : Part). b .own) (parts x))
+    unfolding limitsOfPred limitOfRows roleLimits groupLimits valueOf
+    own-product = pred-limit (limitOfRows x) (Memᴰ·append-right (roleLimits ++ groupLimits) (here refl))
+
+    module _ {j : ℕ} {r : Role} (h : At r (x .predicate .roles) j) where
+      role-limit : (l : Limit) → l ∈ limitsOfRole x (x .roles + j) r → Holds c l
+      unfolding limitsOfPred roleLimits groupLimits
+      role-limit l k =
+          pred-limit l (Memᴰ·append-left (limitOfRows x ∷ [])
+          (Memᴰ·append-left groupLimits (in-flatten (at-in (at-mapFrom (limitsOfRole x) (x .roles) h refl)) k)))
+
+      pub role-type : size c (x .roles + j) ≤ size c (index (r .type))
+      unfolding limitsOfRole atMost valueOf productOver
+      role-type = rw mul-one at (role-limit (atMost (x .roles + j) (index (r .type))) (here refl))
+
+      pub role-own : size c (x .roles + j) ≤ size c (x .own)
+      unfolding limitsOfRole atMost valueOf productOver
+      role-own = rw mul-one at (role-limit (atMost (x .roles + j) (x .own)) (there (here refl)))
+
+      pub role-group : ¬ (r .group ≡ 0) → size c (x .roles + j) ≤ size c (groupSet x (r .group))
+      unfolding limitsOfRole isGrouped atMost valueOf productOver
+      role-group n =
+          rw mul-one at (role-limit (atMost (x .roles + j) (groupSet x (r .group)))
+          (there (there (Memᴰ·append-left _ (in-onlyIf _ _ (rw (ne-eqb (r .group) 0 n)))))))
+
+      pub role-mandatory : r .mand ≡ 1 → size c (index (r .type)) ≤ size c (x .roles + j)
+      unfolding limitsOfRole isMandatory atMost valueOf productOver
+      role-mandatory e =
+          rw mul-one at (role-limit (atMost (index (r .type)) (x .roles + j))
+          (there (there (Memᴰ·append-right (onlyIf (isGrouped r) (atMost (x .roles + j) (groupSet x (r .group))))
+          (in-onlyIf _ _ (eq-eqb (r .mand) 1 e))))))
+
+    module _ {k : ℕ} {f : Frequency} (h : At f (x .predicate .groups) k) where
+      group-limit : (l : Limit) → l ∈ limitsOfGroup x (1 + k) f → Holds c l
+      unfolding limitsOfPred roleLimits groupLimits
+      group-limit l m′ =
+          pred-limit l (Memᴰ·append-left (limitOfRows x ∷ [])
+          (Memᴰ·append-right roleLimits (in-flatten (at-in (at-mapFrom (limitsOfGroup x) 1 h refl)) m′)))
+
+      pub group-most : size c (x .own) ≤ f .fmax * size c (groupSet x (1 + k))
+      unfolding limitsOfGroup valueOf
+      group-most = group-limit _ (here refl)
+
+      pub group-least : size c (groupSet x (1 + k)) ≤ size c (x .own) / f .fmin
+      unfolding limitsOfGroup valueOf
+      group-least = group-limit _ (there (here refl))
+
+      pub group-product : size c (groupSet x (1 + k)) ≤ productOver (size c) (groupRoles x (1 + k))
+      unfolding limitsOfGroup valueOf
+      group-product = group-limit _ (there (there (here refl)))

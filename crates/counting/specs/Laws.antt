@@ -1,0 +1,13 @@
+-- The laws of lists and counts, by subject.
+pub mod Members
+pub mod Index
+pub mod Maps
+pub mod Distinct
+pub mod Instances
+pub mod Sizes
+pub mod Sums
+pub mod Multiplicity
+pub mod Range
+pub mod Products
+pub mod Count
+pub mod Classes

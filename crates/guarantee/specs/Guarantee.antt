@@ -1,0 +1,121 @@
+-- Demand 3 as one statement: the record `Guarantee` at the end of this file, with its one proof in `Proof`. The demand, quoted at its fields:
+--
+--     For every diagram with no fault of form: after every number of rounds the ceilings bound every population; check and fill refuse as
+--     emptied, with document 01's set and round, exactly when no population exists; otherwise the settled sizes and the fill's cells are
+--     written, the cells meet every constraint, each set has exactly its settled size, and no population has more in any set.
+--
+-- It holds of every text, table, list of cells, number of rounds and buffer (document 01: lent space), with no assumption. `readCall`, `checkCall`
+-- and `populateCall` (document 01: reading, check, fill) are the outcomes that the public functions promise for a buffer of the length `space`, and
+-- `bufferAfter` says what an outcome leaves in it. A population here is a `ValidPopulation`: cells that meet every constraint.
+-- A list of sizes has one entry for each set, in document 01's order. `a ≼ b`: equally many, and no entry of `a` is above that of `b`.
+use Prim.Native.Nat.{ℕ, suc, _≤_, _<_}
+use mathlib.Core.Path.{_≡_}
+use mathlib.Core.Logic.{_↔_}
+use mathlib.Core.List.{List, _++_}
+use lib.ListN.{length, drop}
+use Rattle.counting.specs.Terms.{Each}
+use Rattle.fixpoint.specs.Limits.{unsatisfiable, fixpoint}
+use Rattle.fixpoint.specs.Notions.{_≼_, Unsatisfiable, Fixpoint}
+use Rattle.orm.specs.Diagram.{Diagram, table}
+use Rattle.orm.specs.Text.{render, textLine, tableLine}
+use Rattle.orm.specs.Sets.{lower, upper, limits, upperAfterRounds, verdict}
+use Rattle.orm.specs.Population.{cells}
+use Rattle.orm.specs.Populate.{population}
+use Rattle.orm.specs.Constraints.{sizes}
+use Rattle.orm.specs.Outcome.{Outcome, refused, accepted, bufferAfter, Sized, written}
+use Rattle.orm.specs.Calls.{diagramIn, readCall, checkCall, populateCall}
+use Rattle.orm.specs.Meaning.{Between, ValidPopulation}
+use Rattle.orm.specs.WellFormed.{WellFormed}
+
+abbrev pub NoPopulation : Diagram → Type 0
+NoPopulation d = (s : List ℕ) → ¬ ValidPopulation d s
+
+-- ---- reading
+
+-- Of a text of the diagram
+pub record TextGuarantee (text : List ℕ) (d : Diagram) : Type 0 where
+  -- 'Reading takes text and gives the table' (document 01), with the numbers of the text
+  pub same-numbers : text ≡ render d
+  pub reads : (space : ℕ) → length (table d) ≤ space → readCall text space ≡ accepted (table d)
+  pub front : (buffer : List ℕ) → length (table d) ≤ length buffer
+      → bufferAfter (readCall text (length buffer)) buffer ≡ table d ++ drop (length (table d)) buffer
+  pub too-short : (space : ℕ) → space < length (table d) → readCall text space ≡ refused 8 (length (table d)) 0
+  -- so that all that follows of tables holds of this one
+  pub accepted-again : diagramIn tableLine (table d) ≡ accepted d
+
+-- ---- check and populate: a call gives the outcome for every length of the buffer
+
+-- 'document 01's set and round'; the place is the set's number, from 1
+pub record EmptiedAt (d : Diagram) (place round : ℕ) : Type 0 where
+  pub set : ℕ
+  pub numbered : place ≡ suc set
+  pub defined : verdict d ≡ unsatisfiable set round
+  -- after this round, and not before, an upper bound is below its lower bound, that of this set the first
+  pub meaning : Unsatisfiable (limits d) (lower d) (upper d) set round
+
+-- 'refuse as emptied, with document 01's set and round, exactly when no population exists', whatever the buffer
+pub record RefusesEmptied (d : Diagram) (call : ℕ → Outcome Sized) : Type 0 where
+  pub exactly-when : (space : ℕ) → ((place : ℕ) × (round : ℕ) × (call space ≡ refused 7 place round)) ↔ NoPopulation d
+  pub set-and-round : (space place round : ℕ) → call space ≡ refused 7 place round → EmptiedAt d place round
+
+-- 'the settled sizes', and the rounds made
+pub record SettledAfter (d : Diagram) (rounds : ℕ) (settled : List ℕ) : Type 0 where
+  pub defined : verdict d ≡ fixpoint rounds settled
+  -- these upper bounds stand after so many rounds, of which the last, and no other, lowered nothing; none was ever below its lower bound
+  pub meaning : Fixpoint (limits d) (lower d) (upper d) rounds settled
+
+-- The result is 'written', and the rounds are handed back; a buffer that is too short is refused
+pub record Writes (call : ℕ → Outcome Sized) (rounds : ℕ) (result : List ℕ) : Type 0 where
+  pub writes : (space : ℕ) → length result ≤ space → call space ≡ accepted (record { rounds = rounds; result = result })
+  pub front : (buffer : List ℕ) → length result ≤ length buffer
+      → bufferAfter (written (call (length buffer))) buffer ≡ result ++ drop (length result) buffer
+  pub too-short : (space : ℕ) → space < length result → call space ≡ refused 8 (length result) 0
+
+pub record Populated (t : List ℕ) (d : Diagram) : Type 0 where
+  pub rounds : ℕ
+  pub settled : List ℕ
+  pub settled-after : SettledAfter d rounds settled
+  -- 'the settled sizes and the fill's cells are written'
+  pub check-writes : Writes (checkCall t) rounds settled
+  pub populate-writes : Writes (populateCall t) rounds (cells (population d settled))
+  -- 'the cells meet every constraint'
+  pub cells-meet : ValidPopulation d (cells (population d settled))
+  -- 'each set has exactly its settled size'
+  pub exact : sizes d (cells-meet .population) ≡ settled
+  -- 'no population has more in any set'
+  pub greatest : (s : List ℕ) (o : ValidPopulation d s) → sizes d (o .population) ≼ settled
+
+-- Of a table of the diagram
+pub record TableGuarantee (t : List ℕ) (d : Diagram) : Type 0 where
+  -- 'after every number of rounds the ceilings bound every population'
+  pub bounded : (rounds : ℕ) (s : List ℕ) (o : ValidPopulation d s) → sizes d (o .population) ≼ upperAfterRounds d rounds
+  -- 'check and fill refuse as emptied .. exactly when no population exists'
+  pub check-refuses : RefusesEmptied d (checkCall t)
+  pub populate-refuses : RefusesEmptied d (populateCall t)
+  -- 'otherwise'
+  pub otherwise : ¬ NoPopulation d → Populated t d
+  -- 'Cells, 32 bits each' (document 01): a population has no other cells, so it need not be assumed above
+  pub of-32-bits : (s : List ℕ) → ValidPopulation d s → Each (_< 4294967296) s
+
+-- ---- demand 3
+
+-- Refusals 1 to 6, whatever the buffer's length
+pub record FaultOfForm {A : Type 0} (call : ℕ → Outcome A) : Type 0 where
+  pub number : ℕ
+  pub place : ℕ
+  pub of-form : Between 1 number 6
+  pub refuses : (space : ℕ) → call space ≡ refused number place 0
+
+pub record Guarantee : Type 0 where
+  -- 'For every diagram with no fault of form', as a text or as a table
+  pub of-text : (text : List ℕ) (d : Diagram) → diagramIn textLine text ≡ accepted d → TextGuarantee text d
+  pub of-table : (t : List ℕ) (d : Diagram) → diagramIn tableLine t ≡ accepted d → TableGuarantee t d
+  -- these are the texts and tables of the well-formed diagrams, all of them
+  pub accepted-texts : (text : List ℕ) (d : Diagram) → (diagramIn textLine text ≡ accepted d) ↔ ((text ≡ render d) × WellFormed d)
+  pub accepted-tables : (t : List ℕ) (d : Diagram) → (diagramIn tableLine t ≡ accepted d) ↔ ((t ≡ table d) × WellFormed d)
+  -- and any other has a fault of form, for which it is refused
+  pub other-texts : (text : List ℕ) → ((d : Diagram) → ¬ (diagramIn textLine text ≡ accepted d)) → FaultOfForm (readCall text)
+  pub other-tables : (t : List ℕ) → ((d : Diagram) → ¬ (diagramIn tableLine t ≡ accepted d))
+      → FaultOfForm (checkCall t) × FaultOfForm (populateCall t)
+  -- a refusal 'writes no lent byte or number' (document 01)
+  pub refusals : (number place round : ℕ) (buffer : List ℕ) → bufferAfter (refused number place round) buffer ≡ buffer

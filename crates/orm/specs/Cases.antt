@@ -1,0 +1,9 @@
+-- Theorems by computation: the marked cases, the examples of the refusal table, and further worked examples.
+pub mod All
+pub mod Marked
+pub mod Refusals
+pub mod Tables
+pub mod Sample
+pub mod Limits
+pub mod Broken
+pub mod Lines

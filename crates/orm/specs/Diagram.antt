@@ -1,0 +1,113 @@
+-- A diagram and its lines in file order (document 01, 'The diagram file').
+use Prim.Native.Nat.{ℕ, _-_}
+use mathlib.Core.Bool.{Bool, not}
+use mathlib.Core.List.{List, [], _∷_, _++_, map, flatMap}
+use lib.Dec.{eqb}
+use lib.ListN.{length}
+
+-- `type=MIN,MAX,FIRST,LAST,SUPER,INDEP`
+pub record ObjectType : Type 0 where
+  pub min : ℕ
+  pub max : ℕ
+  pub first : ℕ
+  pub last : ℕ
+  pub super : ℕ
+  pub indep : ℕ
+
+-- `role=TYPE,MAND,GROUP`
+pub record Role : Type 0 where
+  pub type : ℕ
+  pub mand : ℕ
+  pub group : ℕ
+
+-- `freq=FMIN,FMAX`: a frequency group; uniqueness is frequency 1..1
+pub record Frequency : Type 0 where
+  pub fmin : ℕ
+  pub fmax : ℕ
+
+-- `pred=MIN,MAX,ROLES,GROUPS` with its role lines and its freq lines
+pub record Predicate : Type 0 where
+  pub min : ℕ
+  pub max : ℕ
+  pub roles : List Role
+  pub groups : List Frequency
+
+pub record Diagram : Type 0 where
+  pub types : List ObjectType
+  pub preds : List Predicate
+
+-- 'A type with SUPER 0 is a root'
+unfoldable pub isRoot : ObjectType → Bool
+isRoot t = eqb (t .super) 0
+
+unfoldable pub isIndependent : ObjectType → Bool
+isIndependent t = eqb (t .indep) 1
+
+unfoldable pub isMandatory : Role → Bool
+isMandatory r = eqb (r .mand) 1
+
+-- GROUP '0: in no frequency group'
+unfoldable pub isGrouped : Role → Bool
+isGrouped r = not (eqb (r .group) 0)
+
+-- Document 01 numbers types, predicates and groups from 1; a list is indexed from 0
+abbrev pub index : ℕ → ℕ
+index number = number - 1
+
+-- All roles and all groups of the diagram, in file order
+unfoldable pub allRoles : Diagram → List Role
+allRoles d = flatMap (λ (p : Predicate). p .roles) (d .preds)
+
+unfoldable pub allGroups : Diagram → List Frequency
+allGroups d = flatMap (λ (p : Predicate). p .groups) (d .preds)
+
+-- How many types, predicates, roles and groups a diagram has
+pub record Totals : Type 0 where
+  pub types : ℕ
+  pub preds : ℕ
+  pub roles : ℕ
+  pub groups : ℕ
+
+unfoldable pub totals : Diagram → Totals
+totals d = record { types = length (d .types); preds = length (d .preds); roles = length (allRoles d); groups = length (allGroups d) }
+
+-- The keys
+pub data LineKind : Type 0 where
+  diagramLine typesLine typeLine predsLine predLine roleLine freqLine endLine : LineKind
+
+-- A line: its key and its numbers
+pub record Line : Type 0 where
+  pub kind : LineKind
+  pub values : List ℕ
+
+unfoldable pub lineOfType : ObjectType → Line
+lineOfType t = record { kind = typeLine; values = t .min ∷ t .max ∷ t .first ∷ t .last ∷ t .super ∷ t .indep ∷ [] }
+
+unfoldable pub lineOfRole : Role → Line
+lineOfRole r = record { kind = roleLine; values = r .type ∷ r .mand ∷ r .group ∷ [] }
+
+unfoldable pub lineOfGroup : Frequency → Line
+lineOfGroup f = record { kind = freqLine; values = f .fmin ∷ f .fmax ∷ [] }
+
+unfoldable pub lineOfPred : Predicate → Line
+lineOfPred p = record { kind = predLine; values = p .min ∷ p .max ∷ length (p .roles) ∷ length (p .groups) ∷ [] }
+
+-- 'for each predicate `pred=..`, its lines `role=..`, its lines `freq=..`'
+unfoldable pub linesOfPred : Predicate → List Line
+linesOfPred p = lineOfPred p ∷ map lineOfRole (p .roles) ++ map lineOfGroup (p .groups)
+
+-- A line with one number
+unfoldable pub lineOfCount : LineKind → ℕ → Line
+lineOfCount k n = record { kind = k; values = n ∷ [] }
+
+-- 'Lines in this order, no others'; `end=` 'the number of role lines in the file'
+unfoldable pub lines : Diagram → List Line
+lines d =
+    lineOfCount diagramLine 1
+    ∷ lineOfCount typesLine (length (d .types)) ∷ map lineOfType (d .types)
+    ++ lineOfCount predsLine (length (d .preds)) ∷ flatMap linesOfPred (d .preds)
+    ++ lineOfCount endLine (length (allRoles d)) ∷ []
+
+-- 'The table form holds the same numbers in file order'
+unfoldable pub table : Diagram → List ℕ
+table d = flatMap (λ (l : Line). l .values) (lines d)

@@ -1,0 +1,7 @@
+-- The laws of single definitions, by subject; laws of the whole stand in the crates above.
+pub mod Readers
+pub mod Select
+pub mod Shape
+pub mod Decided
+pub mod Cells
+pub mod Rounds

@@ -1,0 +1,16 @@
+pub mod Diagram
+pub mod Reader
+pub mod Form
+pub mod Text
+pub mod Outcome
+pub mod Sets
+pub mod Population
+pub mod Populate
+pub mod Constraints
+pub mod Calls
+pub mod LineReader
+pub mod Program
+pub mod WellFormed
+pub mod Meaning
+pub mod Cases
+pub mod Laws

@@ -1,0 +1,120 @@
+-- The reading of a diagram: it reads just the well-formed diagrams, each from its lines.
+use Prim.Native.Nat.{ℕ, suc, _≤_}
+use mathlib.Core.Path.{_≡_, refl, sym, ap, _∙_}
+use mathlib.Core.Logic.{_↔_}
+use mathlib.Core.List.{List, [], _∷_, map, append-assoc, append-nil}
+use native.Mathlib.Numerals.{one-add}
+use native.Mathlib.Omega.{arith}
+use lib.Dec.{lit≤}
+use lib.ListN.{length}
+use Rattle.counting.specs.Lists.{upFrom}
+use Rattle.counting.specs.Terms.{Each2}
+use Rattle.counting.specs.Laws.Range.{of-upFrom, each2-numbered, numbered-length}
+use Rattle.orm.specs.Diagram.{ObjectType, Predicate, Diagram, LineKind, diagramLine, typesLine, typeLine, predsLine, lineOfType, allRoles, allGroups, lines}
+use Rattle.orm.specs.Reader.{read, _>>=_, pure, forEach, atEnd, Cut}
+use Rattle.orm.specs.Laws.Readers.{bind-read, bind-cases}
+use Rattle.orm.specs.Form.{ranges, typeOf, typeTests, line, diagramLines, wholeDiagram, reading}
+use Rattle.orm.specs.Meaning.{Between}
+use Rattle.orm.specs.WellFormed.{TypeForm, WellFormed}
+use Rattle.reading.specs.Exact.{written, Exact, exact-as, pure-exact, bind-exact, forEach-exact}
+use Rattle.reading.specs.Lines.{Cuts}
+use Rattle.reading.specs.Kinds.{type-exact, count-exact, end-exact}
+use Rattle.reading.specs.Predicates.{NextPreds, PredsForm, next-preds-iff, predicates-exact}
+
+-- What was read: a well-formed diagram, from its whole form and nothing after it, up to the line number behind it
+pub record Accepted (whole : Diagram → List ℕ) (s : List ℕ) (d : Diagram) (n : ℕ) (rest : List ℕ) : Type 0 where
+  pub wellFormed : WellFormed d
+  pub from : s ≡ whole d
+  pub place : n ≡ suc (length (lines d))
+  pub nothing-left : rest ≡ []
+
+-- ---- what each step of the reading adds
+
+abbrev EndStep : List ObjectType → List Predicate → Diagram → Type 0
+EndStep ts ps d = (length (allRoles d) ≡ length (allRoles (record { types = ts; preds = ps }))) × (d ≡ record { types = ts; preds = ps })
+
+abbrev PredsStep : ℕ → List ObjectType → ℕ → Diagram → Type 0
+PredsStep t ts p d = NextPreds t 0 0 p (d .preds) × EndStep ts (d .preds) d
+
+abbrev PredCountStep : ℕ → List ObjectType → Diagram → Type 0
+PredCountStep t ts d = Between 1 (length (d .preds)) 32 × PredsStep t ts (length (d .preds)) d
+
+abbrev TypesStep : ℕ → Diagram → Type 0
+TypesStep t d = Each2 TypeForm (upFrom 1 t) (d .types) × PredCountStep t (d .types) d
+
+abbrev TypeCountStep : Diagram → Type 0
+TypeCountStep d = Between 1 (length (d .types)) 32 × TypesStep (length (d .types)) d
+
+all-preds-iff : (t p : ℕ) (ps : List Predicate) → NextPreds t 0 0 p ps ↔ PredsForm t 0 0 p ps
+all-preds-iff t p ps = next-preds-iff t 0 0 p ps (lit≤ tt) (lit≤ tt)
+
+known-end : (ts : List ObjectType) (ps : List Predicate) (n : ℕ) (d : Diagram) → n ≡ length (allRoles (record { types = ts; preds = ps }))
+    → d ≡ record { types = ts; preds = ps } → length (allRoles d) ≡ n
+known-end ts ps n d e q = ap (λ (x : Diagram). length (allRoles x)) q ∙ sym e
+
+diagram-forms : (d : Diagram) → (Between 1 1 1 × TypeCountStep d) ↔ WellFormed d
+unfolding allRoles allGroups
+diagram-forms d = (
+  λ (_, (typeCount, (types, (predCount, (preds, _))))).
+      let ps = all-preds-iff (length (d .types)) (length (d .preds)) (d .preds) .0 preds in
+      record {
+        typeCount = typeCount;
+        predCount = predCount;
+        roleCount = omega (arith, ps .roleTotal);
+        groupCount = omega (arith, ps .groupTotal);
+        types = each2-numbered TypeForm 1 (d .types) .0 types;
+        preds = ps .each;
+      },
+  λ w.
+      let ps : PredsForm (length (d .types)) 0 0 (length (d .preds)) (d .preds) =
+      record { counted = refl; each = w .preds; roleTotal = omega (arith, w .roleCount); groupTotal = omega (arith, w .groupCount) } in
+      let types = each2-numbered TypeForm 1 (d .types) .1 (w .types) in
+      let preds = all-preds-iff (length (d .types)) (length (d .preds)) (d .preds) .1 ps in
+      (omega arith, (w .typeCount, (types, (w .predCount, (preds, (refl, refl)))))),
+)
+
+module _ (form : LineKind → List ℕ → List ℕ) (next : LineKind → List ℕ → Cut) (cuts : Cuts form next) where
+  diagram-exact : Exact form (diagramLines next) WellFormed lines
+  unfolding diagramLines allRoles lines
+  diagram-exact = exact-as form diagram-forms (λ d w. rw append-assoc)
+      (bind-exact form _ _ (λ d. 1) (λ one d w e. omega arith) (count-exact form next cuts diagramLine 1 1 (unfold ranges in refl) (lit≤ tt))
+      (λ one w. bind-exact form _ _ (λ d. length (d .types)) (λ t d w e. numbered-length TypeForm 1 t (d .types) (e .0))
+      (count-exact form next cuts typesLine 1 32 (unfold ranges in refl) (lit≤ tt))
+      (λ t some-types. bind-exact form _ _ (λ d. d .types) (λ ts d w e. ap (λ (x : Diagram). x .types) (e .1 .1 .1)) (type-lines t (some-types .1))
+      (λ ts w. bind-exact form _ _ (λ d. length (d .preds)) (λ p d w e. all-preds-iff t p (d .preds) .0 (e .0) .counted)
+      (count-exact form next cuts predsLine 1 32 (unfold ranges in refl) (lit≤ tt))
+      (λ p w. bind-exact form _ _ (λ d. d .preds) (λ ps d w e. ap (λ (x : Diagram). x .preds) (e .1))
+      (predicates-exact form next cuts t 0 0 p (some-types .1))
+      (λ ps w. bind-exact form _ _ (λ d. length (allRoles d)) (known-end ts ps)
+      (end-exact form next cuts _ (omega (arith, all-preds-iff t p ps .0 w .roleTotal)))
+      (λ n w. pure-exact form (record { types = ts; preds = ps }))))))))
+    where
+      type-lines : (t : ℕ) → t ≤ 32
+          → Exact form (forEach (λ (i : ℕ). line next typeLine typeOf (typeTests i)) (upFrom 1 t)) (Each2 TypeForm (upFrom 1 t)) (map lineOfType)
+      type-lines t most =
+          forEach-exact form _ TypeForm lineOfType (upFrom 1 t) (λ i m. type-exact form next cuts i (omega (arith, of-upFrom 1 t m)))
+
+  abbrev whole : Diagram → List ℕ
+  whole d = written form (lines d)
+
+  accepted : (s : List ℕ) (d : Diagram) (n : ℕ) (rest : List ℕ) → reading next s ≡ read d n rest → Accepted whole s d n rest
+  unfolding reading wholeDiagram atEnd
+  accepted s d n rest e = bind-cases (diagramLines next) _ 1 s e λ d₁ i t p q. go d₁ i t p q
+    where
+      go : (d₁ : Diagram) (i : ℕ) (t : List ℕ) → diagramLines next 1 s ≡ read d₁ i t → (atEnd 1 >>= λ end. pure d₁) i t ≡ read d n rest
+          → Accepted whole s d n rest
+      go d₁ i (x ∷ xs) p q = let z : _≡_ {A = ℕ} 0 1 = cc in absurd (omega arith)
+      go d₁ i [] p q =
+          let r = diagram-exact .only 1 s d₁ i [] p in
+          let same-d : d ≡ d₁ = cc in
+          let same-n : n ≡ i = cc in
+          rw (same-d, same-n)
+          (record { wellFormed = r .valid; from = r .from ∙ append-nil _; place = omega (arith, r .place); nothing-left = cc })
+
+  accepts : (d : Diagram) → WellFormed d → reading next (whole d) ≡ read d (suc (length (lines d))) []
+  unfolding reading wholeDiagram atEnd
+  accepts d w = bind-read (diagramLines next) (λ d₁. atEnd 1 >>= λ end. pure d₁) 1 (whole d) d (suc (length (lines d))) []
+      (rw (append-nil, one-add) at (diagram-exact .every d w 1 []))
+
+  pub read-iff-accepted : (s : List ℕ) (d : Diagram) (n : ℕ) (rest : List ℕ) → (reading next s ≡ read d n rest) ↔ Accepted whole s d n rest
+  read-iff-accepted s d n rest = (accepted s d n rest, λ a. rw (a .from, a .place, a .nothing-left) (accepts d (a .wellFormed)))

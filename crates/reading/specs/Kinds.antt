@@ -1,0 +1,205 @@
+-- What a line of each kind must hold, as facts: type, predicate, role, freq lines and lines with a count.
+use Prim.Native.Nat.{ℕ, _+_, _≤_}
+use mathlib.Core.Path.{_≡_, refl, ap}
+use mathlib.Core.Logic.{_↔_}
+use mathlib.Core.Bool.{Bool, true, false, _&&_, _||_, false≢true, and-eq-true-iff}
+use mathlib.Core.List.{List, [], _∷_, List·Memᴰ·head as here, List·Memᴰ·tail as there, List·Memᴰ·not-nil}
+use native.Mathlib.Nat.{le-trans}
+use native.Mathlib.Decide.{ℕ-discrete}
+use native.Mathlib.Omega.{arith}
+use borrow.Author.Tests.{leb-true, le-leb, ltb-true, lt-ltb, eqb-true, eqb-false, eq-eqb}
+use lib.Dec.{leb, eqb}
+use lib.ListN.{length}
+use Rattle.counting.specs.Distinct.{all}
+use Rattle.counting.specs.Laws.Distinct.{all-decides}
+use Rattle.counting.specs.Terms.{_∈_}
+use Rattle.counting.specs.Laws.Members.{each-nil, each-cons}
+use Rattle.orm.specs.Diagram.{ObjectType, Role, Frequency, LineKind, typeLine, predLine, roleLine, freqLine, endLine, lineOfType, lineOfRole, lineOfGroup, lineOfCount, isRoot}
+use Rattle.orm.specs.Reader.{Cut}
+use Rattle.orm.specs.Form.{_to_, ranges, fields, countOf, typeOf, roleOf, groupOf, PredHead, headOf, valuesInOrder, typeTests, predTests, roleTests, named, groupTests, endTests, mostRoles, mostGroups, line, count}
+use Rattle.orm.specs.Meaning.{Between}
+use Rattle.orm.specs.WellFormed.{TypeForm, RoleForm, GroupForm}
+use Rattle.reading.specs.Exact.{Exact, exact-as}
+use Rattle.reading.specs.Spelling.{lineOfHead, type-spelling, role-spelling, group-spelling, head-spelling, count-spelling}
+use Rattle.reading.specs.Lines.{InRanges, Small, isSmall, in-ranges-small, Cuts, Spelling, LineForm, line-exact}
+
+-- Every kind of line but `end` has no range above 6 digits
+small-ranges : (k : LineKind) (vs : List ℕ) → all isSmall (ranges k) ≡ true → length vs ≡ fields k
+    → InRanges (ranges k) vs → Small vs
+unfolding fields
+small-ranges k vs e l h =
+    in-ranges-small (ranges k) vs l (all-decides isSmall (λ r. (λ q. q, λ q. q)) (ranges k) .0 e) h
+
+values-decides : (t : ObjectType)
+    → valuesInOrder t ≡ true ↔ ((t .super ≡ 0 → t .first ≤ t .last) × (¬ (t .super ≡ 0) → (t .first ≡ 0) × (t .last ≡ 0)))
+unfolding valuesInOrder isRoot
+values-decides t = go (eqb (t .super) 0) refl
+  where
+    go : (b : Bool) → eqb (t .super) 0 ≡ b
+        → elim b [ true ↦ leb (t .first) (t .last) | false ↦ eqb (t .first) 0 && eqb (t .last) 0 ] ≡ true ↔
+        ((t .super ≡ 0 → t .first ≤ t .last) × (¬ (t .super ≡ 0) → (t .first ≡ 0) × (t .last ≡ 0)))
+    go true e =
+        let z : t .super ≡ 0 = eqb-true (t .super) 0 e in
+        (λ h. (λ _. leb-true (t .first) (t .last) h, λ n. absurd (n z)), λ h. le-leb (t .first) (t .last) (h .0 z))
+    go false e =
+        let z : ¬ (t .super ≡ 0) = eqb-false (t .super) 0 e in (
+          λ h. (λ q. absurd (z q), λ _. let b = and-eq-true-iff _ _ .0 h in (eqb-true (t .first) 0 (b .0), eqb-true (t .last) 0 (b .1))),
+          λ h. let b = h .1 z in and-eq-true-iff _ _ .1 (eq-eqb (t .first) 0 (b .0), eq-eqb (t .last) 0 (b .1)),
+        )
+
+named-decides : (g : ℕ) (rs : List Role) → named g rs ≡ true ↔ ((r : Role) × (r ∈ rs) × (r .group ≡ g))
+unfolding named
+named-decides g [] = (λ e. absurd (false≢true e), λ h. absurd (List·Memᴰ·not-nil (h .1)))
+named-decides g (r ∷ rs) = go (eqb (r .group) g) refl (named-decides g rs)
+  where
+    go : (b : Bool) → eqb (r .group) g ≡ b → named g rs ≡ true ↔ ((x : Role) × (x ∈ rs) × (x .group ≡ g))
+        → (b || named g rs) ≡ true ↔ ((x : Role) × (x ∈ r ∷ rs) × (x .group ≡ g))
+    go true e ih = (λ _. (r, here refl, eqb-true (r .group) g e), λ _. refl)
+    go false e ih = (λ h. let x = ih .0 h in (x .0, there (x .1), x .2), back)
+      where
+        back : (x : Role) × (x ∈ r ∷ rs) × (x .group ≡ g) → named g rs ≡ true
+        back (x, here q, n) = absurd (eqb-false (r .group) g e (rw q at n))
+        back (x, there m, n) = ih .1 (x, m, n)
+
+-- FIRST of a root is at most its LAST, that of a subtype is 0
+first-small : {own : ℕ} (t : ObjectType) → TypeForm own t → t .first ≤ 999999
+first-small t f = go (ℕ-discrete (t .super) 0)
+  where
+    go : Dec (t .super ≡ 0) → t .first ≤ 999999
+    go (yes e) = omega (arith, f .values e)
+    go (no n) = omega (arith, f .no-values n .0)
+
+-- A `pred` line, after so many roles and groups
+pub record HeadForm (roles groups : ℕ) (h : PredHead) : Type 0 where
+  pub some : 1 ≤ h .min
+  pub sizes : h .min ≤ h .max
+  pub most : h .max ≤ 4096
+  pub arity : Between 1 (h .roles) 6
+  pub few : h .groups ≤ 6
+  pub roleTotal : roles + h .roles ≤ 96
+  pub groupTotal : groups + h .groups ≤ 48
+
+module _ (form : LineKind → List ℕ → List ℕ) (next : LineKind → List ℕ → Cut) (cuts : Cuts form next) where
+  -- The type with this number
+  pub type-exact : (own : ℕ) → own ≤ 33
+      → Exact form (line next typeLine typeOf (typeTests own)) (TypeForm own) (λ (t : ObjectType). lineOfType t ∷ [])
+  unfolding typeTests ranges lineOfType
+  type-exact own bound =
+      exact-as form forms (λ t w. refl)
+      (line-exact form next cuts typeLine typeOf (typeTests own) lineOfType type-spelling
+      (λ t w. small-ranges typeLine _ (unfold all isSmall in refl) (type-spelling .counted t) (w .0)))
+    where
+      forms : (t : ObjectType) → LineForm typeLine (typeTests own) lineOfType t ↔ TypeForm own t
+      forms t = (
+        λ ((min, (max, (first, (last, (super, (indep, _)))))), (above, (sizes, (values, _)))). let v = values-decides t .0 values in record {
+          some = min .0;
+          sizes = leb-true (t .min) (t .max) sizes;
+          most = max .1;
+          above = ltb-true (t .super) own above;
+          values = v .0;
+          no-values = v .1;
+          largest = last .1;
+          indep = indep .1;
+        },
+        λ f. let first : t .first ≤ 999999 = first-small t f in (
+          (omega arith, (omega arith, (omega arith, (omega arith, (omega arith, (omega arith, tt)))))),
+          (lt-ltb (t .super) own (f .above), (le-leb (t .min) (t .max) (f .sizes), (values-decides t .1 (f .values, f .no-values), tt))),
+        ),
+      )
+
+  -- A role, under so many types and groups
+  pub role-exact : (types groups : ℕ) → types ≤ 32 → groups ≤ 6
+      → Exact form (line next roleLine roleOf (roleTests types groups)) (RoleForm types groups) (λ (r : Role). lineOfRole r ∷ [])
+  unfolding roleTests ranges lineOfRole
+  role-exact types groups t g =
+      exact-as form forms (λ r w. refl)
+      (line-exact form next cuts roleLine roleOf (roleTests types groups) lineOfRole role-spelling
+      (λ r w. small-ranges roleLine _ (unfold all isSmall in refl) (role-spelling .counted r) (w .0)))
+    where
+      forms : (r : Role) → LineForm roleLine (roleTests types groups) lineOfRole r ↔ RoleForm types groups r
+      forms r = (
+        λ ((type, (mand, (group, _))), (below, (within, _))). record {
+          player = (type .0, leb-true (r .type) types below);
+          mand = mand .1;
+          group = leb-true (r .group) groups within;
+        },
+        λ f. ((omega arith, (omega arith, (omega arith, tt))), (le-leb (r .type) types (f .player .1), (le-leb (r .group) groups (f .group), tt))),
+      )
+
+  -- The frequency group with this number, among these roles
+  pub group-exact : (roles : List Role) (number : ℕ)
+      → Exact form (line next freqLine groupOf (groupTests roles number)) (GroupForm roles number) (λ (f : Frequency). lineOfGroup f ∷ [])
+  unfolding groupTests ranges lineOfGroup
+  group-exact roles number =
+      exact-as form forms (λ f w. refl)
+      (line-exact form next cuts freqLine groupOf (groupTests roles number) lineOfGroup group-spelling
+      (λ f w. small-ranges freqLine _ (unfold all isSmall in refl) (group-spelling .counted f) (w .0)))
+    where
+      forms : (f : Frequency)
+          → LineForm freqLine (groupTests roles number) lineOfGroup f ↔ GroupForm roles number f
+      forms f = (
+        λ ((fmin, (fmax, _)), (counts, (names, _))). record {
+          some = fmin .0;
+          counts = leb-true (f .fmin) (f .fmax) counts;
+          most = fmax .1;
+          named = named-decides number roles .0 names;
+        },
+        λ g. ((omega arith, (omega arith, tt)), (le-leb (f .fmin) (f .fmax) (g .counts), (named-decides number roles .1 (g .named), tt))),
+      )
+
+  -- A `pred` line, after so many roles and groups
+  pub head-exact : (roles groups : ℕ)
+      → Exact form (line next predLine headOf (predTests roles groups)) (HeadForm roles groups) (λ (h : PredHead). lineOfHead h ∷ [])
+  unfolding predTests mostRoles mostGroups ranges lineOfHead
+  head-exact roles groups =
+      exact-as form forms (λ h w. refl)
+      (line-exact form next cuts predLine headOf (predTests roles groups) lineOfHead head-spelling
+      (λ h w. small-ranges predLine _ (unfold all isSmall in refl) (head-spelling .counted h) (w .0)))
+    where
+      forms : (h : PredHead)
+          → LineForm predLine (predTests roles groups) lineOfHead h ↔ HeadForm roles groups h
+      forms h = (
+        λ ((min, (max, (arity, (few, _)))), (roleTotal, (groupTotal, (sizes, _)))). record {
+          some = min .0;
+          sizes = leb-true (h .min) (h .max) sizes;
+          most = max .1;
+          arity = arity;
+          few = few .1;
+          roleTotal = leb-true (roles + h .roles) 96 roleTotal;
+          groupTotal = leb-true (groups + h .groups) 48 groupTotal;
+        },
+        λ f. (
+          (omega arith, (omega arith, (omega arith, (omega arith, tt)))),
+          (le-leb (roles + h .roles) 96 (f .roleTotal), (le-leb (groups + h .groups) 48 (f .groupTotal), (le-leb (h .min) (h .max) (f .sizes), tt))),
+        ),
+      )
+
+  -- A line with one number that has no test but its range
+  pub count-exact : (k : LineKind) (low high : ℕ) → ranges k ≡ low to high ∷ [] → high ≤ 999999
+      → Exact form (count next k) (λ (n : ℕ). Between low n high) (λ (n : ℕ). lineOfCount k n ∷ [])
+  unfolding count fields lineOfCount
+  count-exact k low high e bound =
+      exact-as form forms (λ n w. refl)
+      (line-exact form next cuts k countOf (λ n. []) (lineOfCount k) spelling
+      (λ n w. each-cons _ (le-trans (forms n .0 w .1) bound) (each-nil _)))
+    where
+      spelling : Spelling k countOf (lineOfCount k)
+      spelling = count-spelling k (ap length e)
+
+      forms : (n : ℕ) → LineForm k (λ n. []) (lineOfCount k) n ↔ Between low n high
+      forms n = rw e (λ h. h .0 .0, λ h. ((h, tt), tt))
+
+  -- The `end` line, after so many roles
+  pub end-exact : (roles : ℕ) → roles ≤ 96
+      → Exact form (line next endLine countOf (endTests roles)) (λ (n : ℕ). n ≡ roles) (λ (n : ℕ). lineOfCount endLine n ∷ [])
+  unfolding endTests ranges fields lineOfCount
+  end-exact roles bound =
+      exact-as form forms (λ n w. refl)
+      (line-exact form next cuts endLine countOf (endTests roles) (lineOfCount endLine) spelling
+      (λ n w. let e : n ≡ roles = forms n .0 w in each-cons _ (omega arith) (each-nil _)))
+    where
+      spelling : Spelling endLine countOf (lineOfCount endLine)
+      spelling = count-spelling endLine refl
+
+      forms : (n : ℕ) → LineForm endLine (endTests roles) (lineOfCount endLine) n ↔ (n ≡ roles)
+      forms n = (λ h. eqb-true n roles (h .1 .0), λ e. ((omega arith, tt), (eq-eqb n roles e, tt)))

@@ -101,21 +101,22 @@ flatten-zipWith f g h e (p ∷ ps) [] r = absurd r
 flatten-zipWith f g h e (p ∷ ps) (o ∷ os) r =
     map-append h (f p o) (flatten (zipWith f ps os)) ∙ ap₂ _++_ (e p o) (flatten-zipWith f g h e ps os (r .1))
 
-map-mapFrom : {A B : Type 0} (f : ℕ → A → B) (h : B → A) → ((n : ℕ) (a : A) → h (f n a) ≡ a) → (n : ℕ) (xs : List A)
+-- `h` undoes `f`
+mapFrom-back : {A B : Type 0} (f : ℕ → A → B) (h : B → A) → ((n : ℕ) (a : A) → h (f n a) ≡ a) → (n : ℕ) (xs : List A)
     → map h (mapFrom f n xs) ≡ xs
 unfolding mapFrom
-map-mapFrom f h e n [] = refl
-map-mapFrom f h e n (x ∷ xs) = ap₂ _∷_ (e n x) (map-mapFrom f h e (suc n) xs)
+mapFrom-back f h e n [] = refl
+mapFrom-back f h e n (x ∷ xs) = ap₂ _∷_ (e n x) (mapFrom-back f h e (suc n) xs)
 
 module _ (d : Diagram) (o : Population) (shaped : Shaped d o) where
   pub roles-played : map (λ (x : Played). x .role) (allPlayed d o) ≡ allRoles d
   unfolding allPlayed allRoles played
-  roles-played = flatten-zipWith played _ (λ x. x .role) (λ p rows. map-mapFrom _ _ (λ n r. refl) 0 (p .roles)) (d .preds) (o .preds) (shaped .preds)
+  roles-played = flatten-zipWith played _ (λ x. x .role) (λ p rows. mapFrom-back _ _ (λ n r. refl) 0 (p .roles)) (d .preds) (o .preds) (shaped .preds)
 
   groups-grouped : map (λ (x : Grouped). x .frequency) (allGrouped d o) ≡ allGroups d
   unfolding allGrouped allGroups grouped
   groups-grouped =
-      flatten-zipWith grouped _ (λ x. x .frequency) (λ p rows. map-mapFrom _ _ (λ n r. refl) 1 (p .groups)) (d .preds) (o .preds) (shaped .preds)
+      flatten-zipWith grouped _ (λ x. x .frequency) (λ p rows. mapFrom-back _ _ (λ n r. refl) 1 (p .groups)) (d .preds) (o .preds) (shaped .preds)
 
   pub preds-length : length (o .preds) ≡ length (d .preds)
   preds-length = each2-length _ (d .preds) (o .preds) (shaped .preds)

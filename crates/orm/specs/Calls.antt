@@ -1,5 +1,5 @@
--- The outcome of every public call as a function of its input (document 01, 'What the machine says no to').
--- `space` is the length of the buffer. The refusals stand in their order.
+-- The outcome of every call on a text or a table as a function of its input (document 01, 'What the machine says no to'). `space` is the length of
+-- the buffer. The refusals stand in their order. 'Reading takes text and gives the table; every other call takes the table'.
 use Prim.Native.Nat.{ℕ, suc}
 use mathlib.Core.List.{List}
 use Rattle.fixpoint.specs.Limits.{unsatisfiable, fixpoint}

@@ -32,7 +32,8 @@ grouped p rows =
     let combinationsOf : ℕ → List (List ℕ) = λ g. map (combination (rolesInGroup g 0 (p .roles))) rows in
     mapFrom (λ (g : ℕ) (f : Frequency). record { frequency = f; combinations = combinationsOf g }) 1 (p .groups)
 
--- A test of each type, with its number, and its members; of each predicate and its rows
+-- The results of a test of each type, with its number and its members, in order; of each predicate and its rows. Of lists that are not equally
+-- long the rest is left out; in a population of the diagram there is none
 unfoldable pub eachType : (ℕ → ObjectType → List ℕ → Bool) → ℕ → List ObjectType → List (List ℕ) → List Bool
 eachType k number [] os = []
 eachType k number (t ∷ ts) [] = []
@@ -127,7 +128,7 @@ module _ (d : Diagram) (o : Population) where
       ∷ ofPreds K5 ∷ ofPreds K6 ∷ ofPreds (K7 o) ∷ ofPreds (K8 o) ∷ ofPreds K9
       ∷ ofTypes K10 ∷ []
 
--- 'yes, or the lowest broken K with the lowest number that breaks it'
+-- Yes, or a K number and the number of a type or predicate: 'a type's for K1 to K4 and K10, a predicate's for K5 to K9'
 pub data Answer : Type 0 where
   valid : Answer
   breaks : ℕ → ℕ → Answer
@@ -143,5 +144,6 @@ unfoldable pub firstBroken : ℕ → List (List Bool) → Answer
 firstBroken k [] = valid
 firstBroken k (bs ∷ rest) = elim (firstFalse 1 bs) [ some n ↦ breaks k n | none ↦ firstBroken (suc k) rest ]
 
+-- 'The judge says yes, or the lowest broken K with the lowest number that breaks it'
 unfoldable pub answer : Diagram → Population → Answer
 answer d o = firstBroken 1 (constraints d o)

@@ -40,9 +40,11 @@ pub record Diagram : Type 0 where
 unfoldable pub isRoot : ObjectType → Bool
 isRoot t = eqb (t .super) 0
 
+-- INDEP 1: the type is independent
 unfoldable pub isIndependent : ObjectType → Bool
 isIndependent t = eqb (t .indep) 1
 
+-- MAND 1: the role is mandatory
 unfoldable pub isMandatory : Role → Bool
 isMandatory r = eqb (r .mand) 1
 
@@ -61,7 +63,7 @@ allRoles d = flatMap (λ (p : Predicate). p .roles) (d .preds)
 unfoldable pub allGroups : Diagram → List Frequency
 allGroups d = flatMap (λ (p : Predicate). p .groups) (d .preds)
 
--- How many types, predicates, roles and groups a diagram has
+-- How many types, predicates, roles and groups a diagram has: what reading a table hands back
 pub record Totals : Type 0 where
   pub types : ℕ
   pub preds : ℕ
@@ -92,7 +94,7 @@ lineOfGroup f = record { kind = freqLine; values = f .fmin ∷ f .fmax ∷ [] }
 unfoldable pub lineOfPred : Predicate → Line
 lineOfPred p = record { kind = predLine; values = p .min ∷ p .max ∷ length (p .roles) ∷ length (p .groups) ∷ [] }
 
--- 'for each predicate `pred=..`, its lines `role=..`, its lines `freq=..`'
+-- 'for each predicate `pred=MIN,MAX,ROLES,GROUPS`, its lines `role=TYPE,MAND,GROUP`, its lines `freq=FMIN,FMAX`'
 unfoldable pub linesOfPred : Predicate → List Line
 linesOfPred p = lineOfPred p ∷ map lineOfRole (p .roles) ++ map lineOfGroup (p .groups)
 

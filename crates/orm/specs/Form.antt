@@ -35,6 +35,7 @@ unfoldable pub inRange : Range → ℕ → Bool
 inRange (low to high) v = leb low v && leb v high
 inRange unlimited v = true
 
+-- Each number is in its range; that they are as many was tested before, when the line was cut off
 unfoldable pub inRanges : List Range → List ℕ → Bool
 inRanges [] vs = true
 inRanges (r ∷ rs) [] = true

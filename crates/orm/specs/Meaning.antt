@@ -80,7 +80,7 @@ M10 d o number t vs = ¬ (t .indep ≡ 1) → (v : ℕ) → v ∈ vs → InRoleO
 
 -- ---- the population
 
--- 'It meets the diagram's constraints when it breaks no K'
+-- 'It meets the diagram's constraints when it breaks no K'; said of a population of the diagram's shape (`Shaped`)
 pub record Meets (d : Diagram) (o : Population) : Type 0 where
   pub k1 : EachType M1 1 (d .types) (o .types)
   pub k2 : EachType M2 1 (d .types) (o .types)

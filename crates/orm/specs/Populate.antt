@@ -19,12 +19,12 @@ superAt ts a = getD (map (λ (t : ObjectType). t .super) ts) a 0
 unfoldable pub firstAt : List ObjectType → ℕ → ℕ
 firstAt ts a = getD (map (λ (t : ObjectType). t .first) ts) a 0
 
--- The root above the type at an index; the first argument bounds the steps
+-- The root of the type at an index, itself if it is one; the first argument bounds the steps
 unfoldable pub rootWithin : ℕ → List ObjectType → ℕ → ℕ
 rootWithin zero ts a = a
 rootWithin (suc k) ts a = elim (eqb (superAt ts a) 0) [ true ↦ a | false ↦ rootWithin k ts (index (superAt ts a)) ]
 
--- 'SUPER is below the type's own number'
+-- 'SUPER is below the type's own number', so that `a` steps are enough
 unfoldable pub root : List ObjectType → ℕ → ℕ
 root ts a = rootWithin a ts a
 
@@ -35,6 +35,7 @@ firstValue ts a = firstAt ts (root ts a)
 -- ---- by index; `c` has the size of every set
 
 module _ (c : List ℕ) where
+  -- The size of a set
   abbrev pub size : ℕ → ℕ
   size s = getD c s 0
 
@@ -43,7 +44,7 @@ module _ (c : List ℕ) where
   takenBefore p [] = 0
   takenBefore p (s ∷ ss) = elim (eqb s p) [ true ↦ 0 | false ↦ size s + takenBefore p ss ]
 
-  -- Tuple `i` of a part, by its members' indices: 'A group pairs its roles to q', an ungrouped role 'is taken as it is'
+  -- Tuple `i` of a part, by its members' indices: 'A group pairs its roles to q', and 'a single set is taken as it is', so an ungrouped role too
   unfoldable pub partTuple : Part → ℕ → List ℕ
   partTuple b i = tuples (size (b .own)) (map size (b .roles)) .row i
 
@@ -80,8 +81,10 @@ module _ (d : Diagram) (c : List ℕ) where
   unfoldable pub row : Placed → ℕ → List ℕ
   row x i = mapFrom (λ (p : ℕ) (r : Role). memberOf p r (indexInRow c x i p)) (x .roles) (x .predicate .roles)
 
+  -- As many rows as the predicate's size
   unfoldable pub rows : Placed → List (List ℕ)
   rows x = map (row x) (upFrom 0 (size c (x .own)))
 
+  -- The whole (document 01: the rehearsal population)
   unfoldable pub population : Population
   population = record { types = map typeValues (upFrom 0 (length (d .types))); preds = map rows (placed d) }

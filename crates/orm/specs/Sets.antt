@@ -27,11 +27,11 @@ lower d =
     ++ map (λ (r : Role). 1) (allRoles d)
     ++ map (λ (f : Frequency). 1) (allGroups d)
 
--- 'root, the smaller of MAX and LAST - FIRST + 1; subtype .. MAX'
+-- 'root, the smaller of MAX and LAST - FIRST + 1; subtype and predicate, MAX; role and group, 4096': of a type
 unfoldable pub upperOfType : ObjectType → ℕ
 upperOfType t = elim (isRoot t) [ true ↦ min (t .max) (t .last - t .first + 1) | false ↦ t .max ]
 
--- Starting upper bounds (document 01: starting ceilings): '.. predicate, MAX; role and group, 4096'
+-- Starting upper bounds (document 01: starting ceilings), of all sets
 unfoldable pub upper : Diagram → List ℕ
 upper d =
     map upperOfType (d .types)
@@ -39,7 +39,7 @@ upper d =
     ++ map (λ (r : Role). 4096) (allRoles d)
     ++ map (λ (f : Frequency). 4096) (allGroups d)
 
--- The places, counted from `i`, of the roles that pass the test
+-- The positions, counted from `i`, of the roles that pass the test
 unfoldable pub select : (Role → Bool) → ℕ → List Role → List ℕ
 select test i [] = []
 select test i (r ∷ rs) = elim (test r) [ true ↦ i ∷ select test (suc i) rs | false ↦ select test (suc i) rs ]
@@ -48,7 +48,7 @@ select test i (r ∷ rs) = elim (test r) [ true ↦ i ∷ select test (suc i) rs
 unfoldable pub rolesOfType : Diagram → ℕ → List ℕ
 rolesOfType d number = select (λ (r : Role). eqb (r .type) number) (firstRole d) (allRoles d)
 
--- The places, counted from `i`, of the roles in the group with this number; 0: in no group
+-- The positions, counted from `i`, of the roles in the group with this number; 0: in no group
 unfoldable pub rolesInGroup : ℕ → ℕ → List Role → List ℕ
 rolesInGroup number i rs = select (λ (r : Role). eqb (r .group) number) i rs
 
@@ -64,6 +64,7 @@ placedFrom r p q [] = []
 placedFrom r p q (x ∷ xs) =
     record { predicate = x; own = r; roles = p; groups = q } ∷ placedFrom (suc r) (p + length (x .roles)) (q + length (x .groups)) xs
 
+-- All predicates of the diagram, in file order
 unfoldable pub placed : Diagram → List Placed
 placed d = placedFrom (firstPred d) (firstRole d) (firstGroup d) (d .preds)
 
@@ -85,15 +86,17 @@ groupPart x number = record { own = groupSet x number; roles = groupRoles x numb
 unfoldable pub rolePart : ℕ → Part
 rolePart p = record { own = p; roles = p ∷ [] }
 
--- 'its groups, then its ungrouped roles .. each kind in file order'
+-- 'a predicate pairs its groups, then its ungrouped roles, to r; each kind in file order'
 unfoldable pub parts : Placed → List Part
 parts x = map (groupPart x) (upFrom 1 (length (x .predicate .groups))) ++ map rolePart (groupRoles x 0)
 
 -- ---- 'Upper limits': a, r, p and q are the sets of a type, a predicate, a role and a group
 
+-- The size of set `s` is at most that of set `t`
 unfoldable pub atMost : ℕ → ℕ → Limit
 atMost s t = record { target = s; most = product (t ∷ []) }
 
+-- A limit that holds only of some
 unfoldable pub onlyIf : Bool → Limit → List Limit
 onlyIf b l = elim b [ true ↦ l ∷ [] | false ↦ [] ]
 
@@ -116,6 +119,7 @@ limitsOfGroup x number f =
 unfoldable pub limitOfRows : Placed → Limit
 limitOfRows x = record { target = x .own; most = product (map (λ (b : Part). b .own) (parts x)) }
 
+-- Of a predicate with its roles and groups
 unfoldable pub limitsOfPred : Placed → List Limit
 limitsOfPred x =
     flatten (mapFrom (limitsOfRole x) (x .roles) (x .predicate .roles))
@@ -128,6 +132,7 @@ limitsOfType d a t =
     onlyIf (not (isRoot t)) (atMost a (index (t .super)))
     ++ onlyIf (not (isIndependent t)) (record { target = a; most = sum (rolesOfType d (suc a)) })
 
+-- All of them; their order shows nowhere (`RoundLaws.exact`)
 unfoldable pub limits : Diagram → List Limit
 limits d = flatMap limitsOfPred (placed d) ++ flatten (mapFrom (limitsOfType d) 0 (d .types))
 
@@ -137,7 +142,8 @@ limits d = flatMap limitsOfPred (placed d) ++ flatten (mapFrom (limitsOfType d) 
 unfoldable pub upperAfterRounds : Diagram → ℕ → List ℕ
 upperAfterRounds d n = upperAfter (limits d) (upper d) n
 
--- 'the count is at most 1 plus the sum of (starting ceiling - floor)'
+-- The bound in 'Where no ceiling starts below its floor, the count is at most 1 plus the sum of (starting ceiling - floor)';
+-- `Laws/Rounds` has the inequality
 unfoldable pub mostRounds : Diagram → ℕ
 mostRounds d = suc (slack (lower d) (upper d))
 

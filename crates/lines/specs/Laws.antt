@@ -1,0 +1,4 @@
+pub mod FirstLine
+pub mod NextLine
+pub mod Answers
+pub mod Lines

@@ -21,9 +21,9 @@ use Rattle.orm.specs.Text.{render, textLine, tableLine}
 use Rattle.orm.specs.Sets.{lower, upper, limits, upperAfterRounds, verdict}
 use Rattle.orm.specs.Population.{cells}
 use Rattle.orm.specs.Populate.{population}
-use Rattle.orm.specs.Constraints.{sizes}
-use Rattle.orm.specs.Outcome.{Outcome, refused, accepted, bufferAfter, Sized, written}
-use Rattle.orm.specs.Calls.{diagramIn, readCall, checkCall, populateCall}
+use Rattle.orm.specs.Constraints.{sizes, valid}
+use Rattle.orm.specs.Outcome.{Outcome, refused, accepted, bufferAfter, lengthOf, Sized, written, handedBack}
+use Rattle.orm.specs.Calls.{diagramIn, populationIn, readCall, checkCall, populateCall, validateCall}
 use Rattle.orm.specs.Meaning.{Between, ValidPopulation}
 use Rattle.orm.specs.WellFormed.{WellFormed}
 
@@ -39,6 +39,7 @@ pub record TextGuarantee (text : List ℕ) (d : Diagram) : Type 0 where
   pub reads : (space : ℕ) → length (table d) ≤ space → readCall text space ≡ accepted (table d)
   pub front : (buffer : List ℕ) → length (table d) ≤ length buffer
       → bufferAfter (readCall text (length buffer)) buffer ≡ table d ++ drop (length (table d)) buffer
+  pub hands-back : (space : ℕ) → length (table d) ≤ space → lengthOf (readCall text space) ≡ accepted (length (table d))
   pub too-short : (space : ℕ) → space < length (table d) → readCall text space ≡ refused 8 (length (table d)) 0
   -- so that all that follows of tables holds of this one
   pub accepted-again : diagramIn tableLine (table d) ≡ accepted d
@@ -69,6 +70,8 @@ pub record Writes (call : ℕ → Outcome Sized) (rounds : ℕ) (result : List �
   pub writes : (space : ℕ) → length result ≤ space → call space ≡ accepted (record { rounds = rounds; result = result })
   pub front : (buffer : List ℕ) → length result ≤ length buffer
       → bufferAfter (written (call (length buffer))) buffer ≡ result ++ drop (length result) buffer
+  pub hands-back : (space : ℕ) → length result ≤ space
+      → handedBack (call space) ≡ accepted (record { rounds = rounds; resultLength = length result })
   pub too-short : (space : ℕ) → space < length result → call space ≡ refused 8 (length result) 0
 
 pub record Populated (t : List ℕ) (d : Diagram) : Type 0 where
@@ -94,6 +97,9 @@ pub record TableGuarantee (t : List ℕ) (d : Diagram) : Type 0 where
   pub populate-refuses : RefusesEmptied d (populateCall t)
   -- 'otherwise'
   pub otherwise : ¬ NoPopulation d → Populated t d
+  -- a population is what validating says yes of, and its sizes are those of the cells cut by their own size cells
+  pub judged : (s : List ℕ) → (validateCall t s ≡ accepted valid) ↔ ValidPopulation d s
+  pub cut : (s : List ℕ) (o : ValidPopulation d s) → populationIn d s ≡ accepted (o .population)
   -- 'Cells, 32 bits each' (document 01): a population has no other cells, so it need not be assumed above
   pub of-32-bits : (s : List ℕ) → ValidPopulation d s → Each (_< 4294967296) s
 
@@ -117,5 +123,6 @@ pub record Guarantee : Type 0 where
   pub other-texts : (text : List ℕ) → ((d : Diagram) → ¬ (diagramIn textLine text ≡ accepted d)) → FaultOfForm (readCall text)
   pub other-tables : (t : List ℕ) → ((d : Diagram) → ¬ (diagramIn tableLine t ≡ accepted d))
       → FaultOfForm (checkCall t) × FaultOfForm (populateCall t)
-  -- a refusal 'writes no lent byte or number' (document 01)
+  -- a refusal 'writes no lent byte or number' (document 01), of reading, and of check and populate
   pub refusals : (number place round : ℕ) (buffer : List ℕ) → bufferAfter (refused number place round) buffer ≡ buffer
+  pub sized-refusals : (number place round : ℕ) (buffer : List ℕ) → bufferAfter (written (refused number place round)) buffer ≡ buffer

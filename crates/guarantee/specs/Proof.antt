@@ -10,10 +10,11 @@ use Rattle.orm.specs.Diagram.{Diagram, LineKind, table}
 use Rattle.orm.specs.Reader.{Cut}
 use Rattle.orm.specs.Text.{textLine, tableLine}
 use Rattle.orm.specs.Sets.{verdict}
-use Rattle.orm.specs.Outcome.{Outcome, accepted, _>>=_, bufferAfter, Sized, written}
+use Rattle.orm.specs.Outcome.{Outcome, accepted, _>>=_, bufferAfter, lengthOf, Sized, written, handedBack}
 use Rattle.orm.specs.Calls.{diagramIn, settledInto, readCall, checkCall, populateCall}
 use Rattle.orm.specs.WellFormed.{WellFormed}
 use Rattle.orm.specs.Laws.Rounds.{verdict-laws}
+use Rattle.orm.specs.Laws.Cells.{population-in-iff, validate-iff}
 use Rattle.reading.specs.Laws.{text-accepted-iff, table-accepted-iff, accepted-or-fault, accepted-text-table}
 use Rattle.sound.specs.Laws.{valid-laws, valid-small, unsatisfiable-empty}
 use Rattle.complete.specs.Laws.{population-laws, fixpoint-solved}
@@ -26,6 +27,7 @@ text-guarantee text d e = record {
   same-numbers = text-accepted-iff text d .0 e .0;
   reads = reads;
   front = λ buffer h. ap (λ o. bufferAfter o buffer) (reads (length buffer) h);
+  hands-back = λ space h. ap lengthOf (reads space h);
   too-short = λ space h. read-ends text d space e ∙ does-not-fit space (table d) h;
   accepted-again = accepted-text-table text d e;
 }
@@ -67,6 +69,7 @@ module _ (d : Diagram) (form : WellFormed d) where
     writes-made {n} {c} v = record {
       writes = writes;
       front = λ buffer h. ap (λ o. bufferAfter (written o) buffer) (writes (length buffer) h);
+      hands-back = λ space h. ap handedBack (writes space h);
       too-short = λ space h. ends space ∙ settled-fixpoint make d space v ∙ ap (_>>= sized n) (does-not-fit space (make c) h);
     }
       where
@@ -99,6 +102,8 @@ module _ (t : List ℕ) (d : Diagram) (e : diagramIn tableLine t ≡ accepted d)
     check-refuses = refuses-emptied d form (checkCall t) _ (check-ends t d e);
     populate-refuses = refuses-emptied d form (populateCall t) _ (populate-ends t d e);
     otherwise = populated;
+    judged = λ s. validate-iff t s d e;
+    cut = λ s o. population-in-iff d s (o .population) .1 (o .cells-of, o .shaped);
     of-32-bits = λ s o v l. omega (arith, valid-small d form s o v l);
   }
 
@@ -111,7 +116,7 @@ fault-of-form next s rest none =
     (accepted-or-fault next s)
 
 pub guarantee : Guarantee
-unfolding readCall checkCall populateCall bufferAfter
+unfolding readCall checkCall populateCall bufferAfter written
 guarantee = record {
   of-text = text-guarantee;
   of-table = table-guarantee;
@@ -120,4 +125,5 @@ guarantee = record {
   other-texts = λ text none. fault-of-form textLine text _ none;
   other-tables = λ t none. (fault-of-form tableLine t _ none, fault-of-form tableLine t _ none);
   refusals = λ number place round buffer. refl;
+  sized-refusals = λ number place round buffer. refl;
 }

@@ -3,7 +3,10 @@ pub mod All
 pub mod Marked
 pub mod Refusals
 pub mod Tables
+pub mod Ranges
 pub mod Sample
+pub mod Buffers
 pub mod Limits
+pub mod Several
 pub mod Broken
 pub mod Lines

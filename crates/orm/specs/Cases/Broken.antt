@@ -1,11 +1,13 @@
--- Worked examples: each constraint broken, and named as the lowest that is.
+-- Worked examples: each constraint broken, and named as the lowest that is; and a valid population unlike the one that is made.
 use Prim.Native.Nat.{ℕ}
 use mathlib.Core.Path.{_≡_, refl}
 use mathlib.Core.List.{List, [], _∷_, map}
-use Rattle.orm.specs.Constraints.{Answer, valid, breaks}
-use Rattle.orm.specs.Outcome.{Outcome, accepted}
-use Rattle.orm.specs.Calls.{validateCall}
+use Rattle.orm.specs.Text.{tableLine}
+use Rattle.orm.specs.Constraints.{sizes, Answer, valid, breaks}
+use Rattle.orm.specs.Outcome.{Outcome, accepted, _>>=_}
+use Rattle.orm.specs.Calls.{diagramIn, populationIn, validateCall}
 use Rattle.orm.specs.Cases.All.{everything}
+use Rattle.orm.specs.Cases.Sample.{table}
 
 -- Of a diagram with a type 1..5, an independent subtype of it and an independent type 7..8, and one predicate: the first type mandatory and
 -- in a group of frequency 1..2, and the third
@@ -45,3 +47,21 @@ last-constraints-tell :
     ≡ map accepted (valid ∷ breaks 9 1 ∷ breaks 10 1 ∷ [])
 unfolding everything inPair
 last-constraints-tell = refl
+
+-- ---- of the sample
+
+-- Values with gaps and in no order, fewer than could be
+other : List ℕ
+other = 2 ∷ 9 ∷ 4 ∷ 2 ∷ 2 ∷ 1 ∷ 3 ∷ 9 ∷ 2 ∷ 4 ∷ 1 ∷ 9 ∷ 1 ∷ []
+
+-- Both types repeat a value: the lowest number is named
+twice : List ℕ
+twice = 2 ∷ 1 ∷ 1 ∷ 2 ∷ 1 ∷ 1 ∷ 1 ∷ 1 ∷ 1 ∷ []
+
+other-valid : map (validateCall table) (other ∷ twice ∷ []) ≡ map accepted (valid ∷ breaks 1 1 ∷ [])
+unfolding everything table other twice
+other-valid = refl
+
+other-sizes : (diagramIn tableLine table >>= λ d. populationIn d other >>= λ o. accepted (sizes d o)) ≡ accepted (2 ∷ 2 ∷ 3 ∷ 2 ∷ 2 ∷ 2 ∷ [])
+unfolding everything table other
+other-sizes = refl

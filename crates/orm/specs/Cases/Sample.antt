@@ -9,7 +9,8 @@ use Rattle.orm.specs.Calls.{readCall, writeCall, checkCall, populateCall
 use Rattle.orm.specs.Cases.All.{everything}
 use Rattle.orm.specs.Cases.Marked.{text, sampleWith, sample}
 
-table : List ℕ
+-- The sample's table
+unfoldable pub table : List ℕ
 table =
     1 ∷ 2 ∷ 1 ∷ 3 ∷ 1 ∷ 9 ∷ 0 ∷ 0 ∷ 1 ∷ 2 ∷ 1 ∷ 2 ∷ 0 ∷ 0
     ∷ 1 ∷ 1 ∷ 100 ∷ 2 ∷ 1 ∷ 1 ∷ 1 ∷ 1 ∷ 2 ∷ 0 ∷ 0 ∷ 1 ∷ 2 ∷ 2 ∷ []

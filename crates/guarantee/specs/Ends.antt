@@ -1,10 +1,9 @@
 -- How the calls end: reading by its diagram, check and populate by the verdict of the rounds.
-use Prim.Native.Nat.{ℕ, suc, _≤_, _<_}
+use Prim.Native.Nat.{ℕ, suc}
 use mathlib.Core.Path.{_≡_, refl}
 use mathlib.Core.Bool.{Bool, true, false}
 use mathlib.Core.List.{List}
 use native.Mathlib.Omega.{arith}
-use borrow.Author.Tests.{lt-ltb, le-ltb}
 use lib.Dec.{ltb}
 use lib.ListN.{length}
 use Rattle.fixpoint.specs.Limits.{Verdict, unsatisfiable, fixpoint}
@@ -15,15 +14,6 @@ use Rattle.orm.specs.Population.{cells}
 use Rattle.orm.specs.Populate.{population}
 use Rattle.orm.specs.Outcome.{Outcome, refused, accepted, _>>=_, fitted, Sized}
 use Rattle.orm.specs.Calls.{diagramIn, sizesOf, settledInto, readCall, checkCall, populateCall}
-
-module _ (space : ℕ) (r : List ℕ) where
-  pub fits : length r ≤ space → fitted space r ≡ accepted r
-  unfolding fitted
-  fits h = rw (le-ltb space (length r) h, fitted)
-
-  pub does-not-fit : space < length r → fitted space r ≡ refused 8 (length r) 0
-  unfolding fitted
-  does-not-fit h = rw (lt-ltb space (length r) h, fitted)
 
 pub read-ends : (text : List ℕ) (d : Diagram) (space : ℕ) → diagramIn textLine text ≡ accepted d → readCall text space ≡ fitted space (table d)
 unfolding readCall

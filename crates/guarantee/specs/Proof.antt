@@ -15,10 +15,10 @@ use Rattle.orm.specs.Calls.{diagramIn, settledInto, readCall, checkCall, popula
 use Rattle.orm.specs.WellFormed.{WellFormed}
 use Rattle.orm.specs.Laws.Rounds.{verdict-laws}
 use Rattle.orm.specs.Laws.Cells.{population-in-iff, validate-iff}
-use Rattle.reading.specs.Laws.{text-accepted-iff, table-accepted-iff, accepted-or-fault, accepted-text-table}
+use Rattle.reading.specs.Laws.{text-accepted-iff, table-accepted-iff, accepted-or-fault, accepted-text-table, fits, does-not-fit}
 use Rattle.sound.specs.Laws.{valid-laws, valid-small, unsatisfiable-empty}
 use Rattle.complete.specs.Laws.{population-laws, fixpoint-solved}
-use Rattle.guarantee.specs.Ends.{fits, does-not-fit, read-ends, sized, settled-unsatisfiable, settled-fixpoint, of-refused, check-ends, populate-ends}
+use Rattle.guarantee.specs.Ends.{read-ends, sized, settled-unsatisfiable, settled-fixpoint, of-refused, check-ends, populate-ends}
 use Rattle.guarantee.specs.Guarantee.{NoPopulation, TextGuarantee, RefusesEmptied, Writes, Populated, TableGuarantee, FaultOfForm, Guarantee}
 
 text-guarantee : (text : List ℕ) (d : Diagram) → diagramIn textLine text ≡ accepted d → TextGuarantee text d

@@ -1,5 +1,5 @@
 -- A text is cut into just the lines `key=value`, a table into just the lines' numbers.
-use Prim.Native.Nat.{ℕ, zero, suc}
+use Prim.Native.Nat.{ℕ, zero, suc, _≤_, _<_}
 use mathlib.Core.Path.{_≡_, refl, sym, ap, ap₂, _∙_}
 use mathlib.Core.Bool.{Bool, true, false}
 use mathlib.Core.Option.{Option, none, some}
@@ -8,10 +8,10 @@ use native.Mathlib.Omega.{arith}
 use native.Mathlib.Nat.{suc-inj}
 use borrow.Author.Tests.{eqb-true, eq-eqb}
 use lib.Dec.{eqb}
-use lib.ListN.{length}
+use lib.ListN.{length, take, drop}
 use Rattle.counting.specs.Laws.Members.{each-head, each-tail}
 use Rattle.orm.specs.Diagram.{LineKind}
-use Rattle.orm.specs.Reader.{Cut, broken, cut}
+use Rattle.orm.specs.Reader.{Cut, broken, cut, exactly}
 use Rattle.orm.specs.Laws.Readers.{cut-cons, exactly-append, exactly-cut}
 use Rattle.orm.specs.Form.{fields}
 use Rattle.orm.specs.Text.{bytes, key, separator, isDigit, decimal, valuesText, lineText, Numeral, malformed, numeral, number, after, numbers, textLine, tableLine}
@@ -123,3 +123,27 @@ text-cuts = record { only = text-only; every = text-every }
 pub table-cuts : Cuts tableForm tableLine
 unfolding tableLine
 table-cuts = record { only = λ k s v rest e. exactly-cut s (fields k) v rest e; every = λ k v rest l h. rw (← l) (exactly-append v rest) }
+
+-- ---- a line of a table, by how many numbers are left
+
+exactly-short : (s : List ℕ) (n : ℕ) → length s < n → exactly s n ≡ broken
+unfolding exactly
+exactly-short [] zero h = absurd (omega arith)
+exactly-short [] (suc n) h = refl
+exactly-short (x ∷ s) zero h = absurd (omega arith)
+exactly-short (x ∷ s) (suc n) h = rw (exactly-short s n (omega arith))
+
+exactly-long : (s : List ℕ) (n : ℕ) → n ≤ length s → exactly s n ≡ cut (take n s) (drop n s)
+unfolding exactly
+exactly-long [] zero h = refl
+exactly-long [] (suc n) h = absurd (omega arith)
+exactly-long (x ∷ s) zero h = refl
+exactly-long (x ∷ s) (suc n) h = rw (exactly-long s n (omega arith))
+
+pub table-short : (k : LineKind) (s : List ℕ) → length s < fields k → tableLine k s ≡ broken
+unfolding tableLine
+table-short k s h = exactly-short s (fields k) h
+
+pub table-long : (k : LineKind) (s : List ℕ) → fields k ≤ length s → tableLine k s ≡ cut (take (fields k) s) (drop (fields k) s)
+unfolding tableLine
+table-long k s h = exactly-long s (fields k) h

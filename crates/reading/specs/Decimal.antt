@@ -7,6 +7,7 @@ use native.Mathlib.Decide.{decLt}
 use native.Mathlib.Omega.{arith}
 use borrow.Author.Tests.{leb-true, le-leb, ltb-false, lt-ltb, le-ltb, eqb-true, eqb-false, ne-eqb}
 use lib.Dec.{leb, ltb, eqb, lit<, lit≤}
+use lib.ListN.{length, length-append}
 use Rattle.orm.specs.Text.{decimalWithin, decimal, isDigit, malformed, numeral, digits, number}
 
 -- enough fuel is enough
@@ -23,12 +24,12 @@ fuel (suc k) (suc m) n h l = go (ltb n 10) refl (fuel k m (n / 10))
     go true q ih = refl
     go false q ih = ap (λ (l : List ℕ). l ++ (48 + n % 10) ∷ []) (ih (omega (arith, ltb-false n 10 q)) (omega (arith, ltb-false n 10 q)))
 
-decimal-small : (n : ℕ) → n < 10 → decimal n ≡ (48 + n) ∷ []
+pub decimal-small : (n : ℕ) → n < 10 → decimal n ≡ (48 + n) ∷ []
 unfolding decimal decimalWithin
 decimal-small zero h = refl
 decimal-small (suc n) h = rw (lt-ltb (suc n) 10 h, decimalWithin) refl
 
-decimal-large : (n : ℕ) → 10 ≤ n → decimal n ≡ decimal (n / 10) ++ (48 + n % 10) ∷ []
+pub decimal-large : (n : ℕ) → 10 ≤ n → decimal n ≡ decimal (n / 10) ++ (48 + n % 10) ∷ []
 unfolding decimal decimalWithin
 decimal-large zero h = absurd (omega arith)
 decimal-large (suc n) h =
@@ -128,7 +129,7 @@ number-first x rest h l =
     rw (digit-is x l, ne-eqb (48 + x) 48 (λ e. omega arith), number) (rw q refl)
 
 -- The least number of more than `k` digits
-unfoldable bound : ℕ → ℕ
+unfoldable pub bound : ℕ → ℕ
 bound zero = 1
 bound (suc k) = 10 * bound k
 
@@ -168,3 +169,17 @@ number-every zero b rest h n = rw (decimal-small 0 (lit< tt)) (unfold number isD
 number-every (suc x) b rest h n =
     let r = number-digits 6 (suc x) (omega arith) (unfold bound in omega arith) (lit≤ tt) (b ∷ rest) in
     r .2 ∙ digits-stop (r .0) (suc x) b rest n
+
+-- ---- how many digits
+
+-- A number below `bound k` has at most `k` digits, where it may have one
+pub decimal-length : (k x : ℕ) → x < bound (suc k) → length (decimal x) ≤ suc k
+unfolding bound
+decimal-length zero x h = rw (decimal-small x (omega arith)) (omega arith)
+decimal-length (suc k) x h = go (decLt x 10) (λ l. decimal-length k (x / 10) l)
+  where
+    go : Dec (x < 10) → (x / 10 < bound (suc k) → length (decimal (x / 10)) ≤ suc k) → length (decimal x) ≤ suc (suc k)
+    go (yes p) ih = rw (decimal-small x p) (omega arith)
+    go (no n) ih =
+        let long : length (decimal (x / 10)) ≤ suc k = ih (omega arith) in
+        rw (decimal-large x (omega arith)) (omega (arith, length-append (decimal (x / 10)) ((48 + x % 10) ∷ [])))

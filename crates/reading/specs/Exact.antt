@@ -17,7 +17,7 @@ module _ (form : LineKind → List ℕ → List ℕ) where
   unfoldable pub written : List Line → List ℕ
   written ls = flatMap (λ (l : Line). form (l .kind) (l .values)) ls
 
-  written-append : (ls ks : List Line) → written (ls ++ ks) ≡ written ls ++ written ks
+  pub written-append : (ls ks : List Line) → written (ls ++ ks) ≡ written ls ++ written ks
   unfolding written flatMap
   written-append [] ks = refl
   written-append (l ∷ ls) ks =

@@ -15,13 +15,13 @@ use Rattle.counting.specs.Laws.Distinct.{all-decides}
 use Rattle.counting.specs.Terms.{_∈_}
 use Rattle.counting.specs.Laws.Members.{each-nil, each-cons}
 use Rattle.orm.specs.Diagram.{ObjectType, Role, Frequency, LineKind, typeLine, predLine, roleLine, freqLine, endLine, lineOfType, lineOfRole, lineOfGroup, lineOfCount, isRoot}
-use Rattle.orm.specs.Reader.{Cut}
+use Rattle.orm.specs.Reader.{read, Cut}
 use Rattle.orm.specs.Form.{_to_, ranges, fields, countOf, typeOf, roleOf, groupOf, PredHead, headOf, valuesInOrder, typeTests, predTests, roleTests, named, groupTests, endTests, mostRoles, mostGroups, line, count}
 use Rattle.orm.specs.Meaning.{Between}
 use Rattle.orm.specs.WellFormed.{TypeForm, RoleForm, GroupForm}
 use Rattle.reading.specs.Exact.{Exact, exact-as}
 use Rattle.reading.specs.Spelling.{lineOfHead, type-spelling, role-spelling, group-spelling, head-spelling, count-spelling}
-use Rattle.reading.specs.Lines.{InRanges, Small, isSmall, in-ranges-small, Cuts, Spelling, LineForm, line-exact}
+use Rattle.reading.specs.Lines.{InRanges, Small, isSmall, in-ranges-small, Cuts, Spelling, LineForm, line-only, line-exact}
 
 -- Every kind of line but `end` has no range above 6 digits
 small-ranges : (k : LineKind) (vs : List ℕ) → all isSmall (ranges k) ≡ true → length vs ≡ fields k
@@ -203,3 +203,11 @@ module _ (form : LineKind → List ℕ → List ℕ) (next : LineKind → List �
 
       forms : (n : ℕ) → LineForm endLine (endTests roles) (lineOfCount endLine) n ↔ (n ≡ roles)
       forms n = (λ h. eqb-true n roles (h .1 .0), λ e. ((omega arith, tt), (eq-eqb n roles e, tt)))
+
+-- The number of an `end` line that was read is that of the roles, however many
+pub end-only : {form : LineKind → List ℕ → List ℕ} (next : LineKind → List ℕ → Cut) (cuts : Cuts form next) (roles n : ℕ) (s : List ℕ)
+    {a n′ : ℕ} {rest : List ℕ} → line next endLine countOf (endTests roles) n s ≡ read a n′ rest → a ≡ roles
+unfolding endTests ranges fields
+end-only {form} next cuts roles n s {a} {n′} {rest} e =
+    let h = line-only form next cuts endLine countOf (endTests roles) (lineOfCount endLine) (count-spelling endLine refl) n s a n′ rest e in
+    eqb-true a roles (h .valid .1 .0)

@@ -89,7 +89,7 @@ pub record Spelling {A : Type 0} (k : LineKind) (make : List ℕ → A) (lineOf 
 abbrev pub LineForm : {A : Type 0} → LineKind → (A → List Test) → (A → Line) → A → Type 0
 LineForm k tests lineOf a = InRanges (ranges k) (lineOf a .values) × Passed (tests a)
 
-tested-decides : (k : LineKind) (v : List ℕ) (ts : List Test)
+pub tested-decides : (k : LineKind) (v : List ℕ) (ts : List Test)
     → firstOf (2 unless inRanges (ranges k) v ∷ ts) ≡ none ↔ (InRanges (ranges k) v × Passed ts)
 tested-decides k v ts = Iff·trans (passed-decides _) (λ h. (inRanges-decides _ v .0 (h .0), h .1), λ h. (inRanges-decides _ v .1 (h .0), h .1))
 
@@ -101,7 +101,7 @@ module _ (form : LineKind → List ℕ → List ℕ) (next : LineKind → List �
   abbrev Found : ℕ → List ℕ → A → ℕ → List ℕ → Type 0
   Found n s a n′ rest = Read form Form (λ (a : A). lineOf a ∷ []) n s a n′ rest
 
-  line-only : (n : ℕ) (s : List ℕ) (a : A) (n′ : ℕ) (rest : List ℕ) → line next k make tests n s ≡ read a n′ rest
+  pub line-only : (n : ℕ) (s : List ℕ) (a : A) (n′ : ℕ) (rest : List ℕ) → line next k make tests n s ≡ read a n′ rest
       → Found n s a n′ rest
   unfolding line
   line-only n s a n′ rest e = go (next k s) refl e

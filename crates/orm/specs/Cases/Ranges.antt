@@ -42,7 +42,8 @@ role-lines = refl
 
 -- of a group that no role names
 freqLines : List (Outcome (List ℕ))
-freqLines = map (λ (s : String). readCall (text ("diagram=1" ∷ "types=1" ∷ "type=1,5,0,9,0,1" ∷ "preds=1" ∷ "pred=1,9,1,1" ∷ "role=1,0,0" ∷ s ∷ [])) 0)
+freqLines = map (λ (s : String). readCall
+    (text ("diagram=1" ∷ "types=1" ∷ "type=1,5,0,9,0,1" ∷ "preds=1" ∷ "pred=1,9,1,1" ∷ "role=1,0,0" ∷ s ∷ [])) 0)
     ("freq=4097,1" ∷ "freq=1,0" ∷ "freq=3,2" ∷ "freq=2,3" ∷ [])
 
 freq-lines : freqLines ≡ refused 2 7 0 ∷ refused 2 7 0 ∷ refused 4 7 0 ∷ refused 5 7 0 ∷ []

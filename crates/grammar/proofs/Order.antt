@@ -1,0 +1,190 @@
+-- The order of the lines: the place with so many lines left, and where the line at each place leads.
+use Prim.Native.Nat.{ℕ, zero, suc, _+_, _-_, _≤_}
+use mathlib.Core.Path.{_≡_, refl, ap, _∙_, subst}
+use mathlib.Core.Bool.{Bool, true, false}
+use mathlib.Core.Option.{Option}
+use mathlib.Core.List.{List, [], _∷_}
+use native.Mathlib.Omega.{arith}
+use mir.Syntax.{w64}
+use mir.Val.{Fits}
+use lib.ListN.{length, getD}
+use Rattle.orm.specs.Diagram.{typeLine, predLine, roleLine, freqLine, endLine}
+use Rattle.orm.specs.Form.{_to_, ranges, inRanges, _unless_, firstOf, countOf, typeOf, roleOf, groupOf, headOf, typeTests, predTests, roleTests, named, groupTests, endTests}
+use Rattle.reading.specs.Walk.{rolesAt}
+use Rattle.grammar.specs.declared.Fault.{Fault}
+use Rattle.grammar.specs.declared.Verdict.{Verdict}
+use Rattle.grammar.specs.declared.Verdict.the-variants as verdict
+use Rattle.grammar.specs.declared.Counts.{Counts}
+use Rattle.grammar.specs.declared.Block.{Block}
+use Rattle.grammar.specs.declared.Place.{Place}
+use Rattle.grammar.specs.declared.Place.the-variants.{AtDiagram, AtTypes, AtType, AtPreds, AtPred, AtRole, AtFreq, AtEnd, Over}
+use Rattle.grammar.specs.declared.Step.{Step}
+use Rattle.grammar.specs.Fault.{numberOf, faultOf}
+use Rattle.grammar.specs.Place.{countsOf, blockOf, withLeft, typesFrom, predsLeft, predsFrom, groupsFrom, rolesFrom, kindAt, fieldsAt, isGoing, countsAt}
+use Rattle.grammar.specs.Step.{faultIn, freqTests, testsAt, nextAt, refusing, going, stepOf, stepped, stepAt, predStep}
+use Rattle.grammar.specs.Room.{Known, Room}
+
+pub fine-next : {v : Verdict} (p : Place) → v ≡ verdict.Fine → going p ≡ stepped (faultOf v) p
+fine-next p e = rw e
+
+pub faulty-next : {v : Verdict} (p : Place) (f : Fault) → v ≡ verdict.Faulty f → refusing (numberOf f) ≡ stepped (faultOf v) p
+faulty-next p f e = rw e
+
+pub counts-arm : {p q : Place} {r : Counts} → p ≡ q → r ≡ countsAt q → r ≡ countsAt p
+counts-arm e w = rw e w
+
+-- ---- the number of lines left is 0, or one more than what is left then
+
+pub types-none : (types own left : ℕ) → left ≡ 0 → AtPreds types ≡ typesFrom types own left
+types-none types own left e = rw e
+
+pub types-some : (types own left : ℕ) → (left ≡ 0 → ⊥) → AtType types own (left - 1) ≡ typesFrom types own left
+types-some types own zero n = absurd (n refl)
+types-some types own (suc left) n = let p : suc left - 1 ≡ left = omega arith in ap (λ (k : ℕ). AtType types own k) p
+
+pub preds-none : (c : Counts) → c .left ≡ 0 → AtEnd c ≡ predsFrom c
+preds-none c e = rw e
+
+some-left : (c : Counts) (left : ℕ) → (left ≡ 0 → ⊥) → AtPred (withLeft c (left - 1)) ≡ predsLeft c left
+some-left c zero n = absurd (n refl)
+some-left c (suc left) n = let p : suc left - 1 ≡ left = omega arith in ap (λ (k : ℕ). AtPred (withLeft c k)) p
+
+pub preds-some : (c : Counts) → (c .left ≡ 0 → ⊥)
+    → AtPred (record { types = c .types; preds = c .preds; left = c .left - 1; roles = c .roles; groups = c .groups }) ≡ predsFrom c
+preds-some c n = some-left c (c .left) n
+
+pub groups-none : (b : Block) (own left : ℕ) {r : Place} → left ≡ 0 → r ≡ predsFrom (b .counts) → r ≡ groupsFrom b own left
+groups-none b own left e w = rw e w
+
+pub groups-some : (b : Block) (own left : ℕ) → (left ≡ 0 → ⊥) → AtFreq b own (left - 1) ≡ groupsFrom b own left
+groups-some b own zero n = absurd (n refl)
+groups-some b own (suc left) n = let p : suc left - 1 ≡ left = omega arith in ap (λ (k : ℕ). AtFreq b own k) p
+
+pub roles-none : (b : Block) (left : ℕ) {r : Place} → left ≡ 0 → r ≡ groupsFrom b 1 (b .groups) → r ≡ rolesFrom b left
+roles-none b left e w = rw e w
+
+pub roles-some : (b : Block) (left : ℕ) → (left ≡ 0 → ⊥) → AtRole b (left - 1) ≡ rolesFrom b left
+roles-some b zero n = absurd (n refl)
+roles-some b (suc left) n = let p : suc left - 1 ≡ left = omega arith in ap (λ (k : ℕ). AtRole b k) p
+
+-- ---- a predicate's line
+
+pub block-is : (c : Counts) (first : ℕ) (v : List ℕ) {x y : ℕ} → x ≡ getD v 2 0 → y ≡ getD v 3 0
+    → _≡_ {A = Block} (record {
+      counts = record { types = c .types; preds = c .preds; left = c .left; roles = c .roles + x; groups = c .groups + y };
+      first = first;
+      roles = x;
+      groups = y;
+    }) (blockOf c first v)
+block-is c first v p q = rw (p, q)
+
+pub pred-step : (c : Counts) (read : ℕ) (v : List ℕ) (r : Step) {o : Option ℕ} {next : Place} {b : Block} → stepOf r ≡ stepped o next
+    → o ≡ faultIn predLine v (predTests (c .roles) (c .groups) (headOf v))
+    → next ≡ rolesFrom b (b .roles) → b ≡ blockOf c (read + length v) v → stepOf r ≡ predStep c read v
+pred-step c read v r {o} {next} {b} e p q w =
+    rw (← w, ← p) (e ∙ ap (stepped o) q ∙ ap (λ (b′ : Block). stepped o (rolesFrom b (b′ .roles))) w)
+
+-- ---- a line at a place
+
+-- the number of its values
+module _ {p : Place} (v : List ℕ) (l : length v ≡ fieldsAt p) where
+  pub diagram-sized : p ≡ AtDiagram → length v ≡ 1
+  diagram-sized e = rw e at l
+
+  pub types-sized : p ≡ AtTypes → length v ≡ 1
+  types-sized e = rw e at l
+
+  pub type-sized : (t o left : ℕ) → p ≡ AtType t o left → length v ≡ 6
+  type-sized t o left e = rw e at l
+
+  pub preds-sized : (t : ℕ) → p ≡ AtPreds t → length v ≡ 1
+  preds-sized t e = rw e at l
+
+  pub pred-sized : (c : Counts) → p ≡ AtPred c → length v ≡ 4
+  pred-sized c e = rw e at l
+
+  pub role-sized : (b : Block) (left : ℕ) → p ≡ AtRole b left → length v ≡ 3
+  role-sized b left e = rw e at l
+
+  pub freq-sized : (b : Block) (o left : ℕ) → p ≡ AtFreq b o left → length v ≡ 2
+  freq-sized b o left e = rw e at l
+
+  pub end-sized : (c : Counts) → p ≡ AtEnd c → length v ≡ 1
+  end-sized c e = rw e at l
+
+-- the numbers in the place are small
+module _ {p : Place} {read : ℕ} (w : Room p read) where
+  known : (q : Place) → p ≡ q → Known q read
+  known q e = subst (λ (q : Place). Known q read) e (w .known)
+
+  pub type-fits : {t left : ℕ} (own : ℕ) → p ≡ AtType t own left → Fits w64 (own + 1)
+  type-fits own e = let k = known _ e in record { fits = omega arith }
+
+  pub pred-roles : (c : Counts) → p ≡ AtPred c → c .roles ≤ 96
+  pred-roles c e = known (AtPred c) e .roles
+
+  pub pred-groups : (c : Counts) → p ≡ AtPred c → c .groups ≤ 48
+  pred-groups c e = known (AtPred c) e .groups
+
+  pub pred-read : (c : Counts) → p ≡ AtPred c → read ≤ 708
+  pred-read c e = let k = known (AtPred c) e in omega (arith, k .numbers, k .roles, k .groups)
+
+  pub freq-fits : {b : Block} {left : ℕ} (own : ℕ) → p ≡ AtFreq b own left → Fits w64 (own + 1)
+  freq-fits {b} {left} own e = let k = known (AtFreq b own left) e in record { fits = omega (arith, k .2) }
+
+  pub freq-first : {own left : ℕ} (b : Block) → p ≡ AtFreq b own left → b .first ≤ 4294967296
+  freq-first {own} {left} b e = let k = known (AtFreq b own left) e in omega (arith, k .1 .first)
+
+  pub freq-roles : {own left : ℕ} (b : Block) → p ≡ AtFreq b own left → b .roles ≤ 4294967296
+  freq-roles {own} {left} b e = let k = known (AtFreq b own left) e in omega (arith, k .1 .roles)
+
+-- what it leads to
+module _ {p : Place} (s v : List ℕ) (r : Step) {o : Option ℕ} where
+  leads : (q : Place) {next : Place} → p ≡ q → stepOf r ≡ stepped o next
+      → o ≡ faultIn (kindAt q) v (testsAt q s v) → next ≡ nextAt q s v → stepOf r ≡ stepAt p s v
+  unfolding stepAt
+  leads q e w f g = rw (e, ← f, ← g) w
+
+  pub diagram-leads : p ≡ AtDiagram → stepOf r ≡ stepped o AtTypes → o ≡ firstOf (2 unless inRanges (1 to 1 ∷ []) v ∷ [])
+      → stepOf r ≡ stepAt p s v
+  unfolding ranges
+  diagram-leads e w f = leads AtDiagram e w f refl
+
+  pub types-leads : {next : Place} {x : ℕ} → p ≡ AtTypes → stepOf r ≡ stepped o next
+      → o ≡ firstOf (2 unless inRanges (1 to 32 ∷ []) v ∷ []) → next ≡ typesFrom x 1 x → x ≡ getD v 0 0 → stepOf r ≡ stepAt p s v
+  unfolding ranges
+  types-leads e w f g q = leads AtTypes e w f (rw q at g)
+
+  pub type-leads : {next : Place} (t own left : ℕ) → p ≡ AtType t own left → stepOf r ≡ stepped o next
+      → o ≡ faultIn typeLine v (typeTests own (typeOf v)) → next ≡ typesFrom t (own + 1) left
+      → stepOf r ≡ stepAt p s v
+  type-leads t own left e w f g = leads (AtType t own left) e w f g
+
+  pub preds-leads : {next : Place} (t : ℕ) {x : ℕ} {c : Counts} → p ≡ AtPreds t → stepOf r ≡ stepped o next
+      → o ≡ firstOf (2 unless inRanges (1 to 32 ∷ []) v ∷ []) → next ≡ predsFrom c → c ≡ countsOf t x → x ≡ getD v 0 0
+      → stepOf r ≡ stepAt p s v
+  unfolding ranges
+  preds-leads t e w f g h q = leads (AtPreds t) e w f (rw (h, q) at g)
+
+  pub role-leads : {next : Place} (b : Block) (left : ℕ) → p ≡ AtRole b left → stepOf r ≡ stepped o next
+      → o ≡ faultIn roleLine v (roleTests (b .counts .types) (b .groups) (roleOf v)) → next ≡ rolesFrom b left
+      → stepOf r ≡ stepAt p s v
+  role-leads b left e w f g = leads (AtRole b left) e w f g
+
+  pub freq-leads : {next : Place} {used : Bool} (b : Block) (own left : ℕ) → p ≡ AtFreq b own left → stepOf r ≡ stepped o next
+      → o ≡ faultIn freqLine v (freqTests used (groupOf v))
+      → used ≡ named own (rolesAt s (b .first) (b .roles)) → next ≡ groupsFrom b (own + 1) left → stepOf r ≡ stepAt p s v
+  unfolding groupTests
+  freq-leads b own left e w f u g = leads (AtFreq b own left) e w (rw u at f) g
+
+  pub end-leads : (c : Counts) → p ≡ AtEnd c → stepOf r ≡ stepped o (Over c)
+      → o ≡ faultIn endLine v (endTests (c .roles) (countOf v)) → stepOf r ≡ stepAt p s v
+  end-leads c e w f = leads (AtEnd c) e w f refl
+
+pub pred-leads : {p : Place} (s v : List ℕ) (r : Step) (c : Counts) → p ≡ AtPred c → stepOf r ≡ predStep c (length s) v
+    → stepOf r ≡ stepAt p s v
+unfolding stepAt
+pred-leads s v r c e w = rw e w
+
+pub over-never : {p : Place} (s v : List ℕ) (c : Counts) → p ≡ Over c → isGoing p ≡ true → going (Over c) ≡ stepAt p s v
+over-never s v c e g = let z : false ≡ true = rw e at g in cc

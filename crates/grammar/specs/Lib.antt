@@ -1,0 +1,6 @@
+pub mod Fault
+pub mod Place
+pub mod Step
+pub mod Room
+pub mod Walk
+pub mod Laws

@@ -1,0 +1,100 @@
+-- The order of the lines, as places between them: which line comes next, and the place with so many of its kind left.
+use Prim.Native.Nat.{ℕ, zero, suc, _+_}
+use mathlib.Core.Bool.{Bool, true, false}
+use mathlib.Core.List.{List}
+use lib.ListN.{getD}
+use Rattle.orm.specs.Diagram.{Totals, LineKind, diagramLine, typesLine, typeLine, predsLine, predLine, roleLine, freqLine, endLine}
+use Rattle.grammar.specs.declared.Counts.{Counts}
+use Rattle.grammar.specs.declared.Block.{Block}
+use Rattle.grammar.specs.declared.Place.{Place}
+use Rattle.grammar.specs.declared.Place.the-variants.{AtDiagram, AtTypes, AtType, AtPreds, AtPred, AtRole, AtFreq, AtEnd, Over}
+
+-- ---- what is known
+
+-- Before any predicate
+abbrev pub countsOf : ℕ → ℕ → Counts
+countsOf types preds = record { types = types; preds = preds; left = preds; roles = 0; groups = 0 }
+
+abbrev pub withLeft : Counts → ℕ → Counts
+withLeft c left = record { types = c .types; preds = c .preds; left = left; roles = c .roles; groups = c .groups }
+
+abbrev pub totalsOf : Counts → Totals
+totalsOf c = record { types = c .types; preds = c .preds; roles = c .roles; groups = c .groups }
+
+-- The predicate of a `pred` line with the numbers `v`, whose roles' numbers start at `first`
+abbrev pub blockOf : Counts → ℕ → List ℕ → Block
+blockOf c first v = record {
+  counts = record { types = c .types; preds = c .preds; left = c .left; roles = c .roles + getD v 2 0; groups = c .groups + getD v 3 0 };
+  first = first;
+  roles = getD v 2 0;
+  groups = getD v 3 0;
+}
+
+-- ---- the place with so many lines of a kind left
+
+abbrev pub typesFrom : ℕ → ℕ → ℕ → Place
+typesFrom types own zero = AtPreds types
+typesFrom types own (suc left) = AtType types own left
+
+abbrev pub predsLeft : Counts → ℕ → Place
+predsLeft c zero = AtEnd c
+predsLeft c (suc left) = AtPred (withLeft c left)
+
+abbrev pub predsFrom : Counts → Place
+predsFrom c = predsLeft c (c .left)
+
+abbrev pub groupsFrom : Block → ℕ → ℕ → Place
+groupsFrom b own zero = predsFrom (b .counts)
+groupsFrom b own (suc left) = AtFreq b own left
+
+abbrev pub rolesFrom : Block → ℕ → Place
+rolesFrom b zero = groupsFrom b 1 (b .groups)
+rolesFrom b (suc left) = AtRole b left
+
+-- ---- a place
+
+abbrev pub kindAt : Place → LineKind
+kindAt AtDiagram = diagramLine
+kindAt AtTypes = typesLine
+kindAt (AtType types own left) = typeLine
+kindAt (AtPreds types) = predsLine
+kindAt (AtPred c) = predLine
+kindAt (AtRole b left) = roleLine
+kindAt (AtFreq b own left) = freqLine
+kindAt (AtEnd c) = endLine
+kindAt (Over c) = endLine
+
+-- The number of values on the line
+abbrev pub fieldsAt : Place → ℕ
+fieldsAt AtDiagram = 1
+fieldsAt AtTypes = 1
+fieldsAt (AtType types own left) = 6
+fieldsAt (AtPreds types) = 1
+fieldsAt (AtPred c) = 4
+fieldsAt (AtRole b left) = 3
+fieldsAt (AtFreq b own left) = 2
+fieldsAt (AtEnd c) = 1
+fieldsAt (Over c) = 1
+
+abbrev pub isGoing : Place → Bool
+isGoing AtDiagram = true
+isGoing AtTypes = true
+isGoing (AtType types own left) = true
+isGoing (AtPreds types) = true
+isGoing (AtPred c) = true
+isGoing (AtRole b left) = true
+isGoing (AtFreq b own left) = true
+isGoing (AtEnd c) = true
+isGoing (Over c) = false
+
+-- The counts at the end; before it none
+abbrev pub countsAt : Place → Counts
+countsAt AtDiagram = countsOf 0 0
+countsAt AtTypes = countsOf 0 0
+countsAt (AtType types own left) = countsOf 0 0
+countsAt (AtPreds types) = countsOf 0 0
+countsAt (AtPred c) = countsOf 0 0
+countsAt (AtRole b left) = countsOf 0 0
+countsAt (AtFreq b own left) = countsOf 0 0
+countsAt (AtEnd c) = countsOf 0 0
+countsAt (Over c) = c

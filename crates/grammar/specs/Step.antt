@@ -1,0 +1,75 @@
+-- The tests of the line at a place, and where it leads.
+use Prim.Native.Nat.{ℕ, _+_}
+use mathlib.Core.Bool.{Bool, true, false, _&&_}
+use mathlib.Core.Option.{Option, none, some}
+use mathlib.Core.List.{List, [], _∷_}
+use lib.Dec.{leb, eqb}
+use lib.ListN.{length, getD}
+use Rattle.orm.specs.Diagram.{Frequency, LineKind, predLine}
+use Rattle.orm.specs.Form.{Test, _unless_, firstOf, ranges, inRanges, countOf, typeOf, roleOf, groupOf, headOf, typeTests, predTests, roleTests, groupTests, endTests}
+use Rattle.reading.specs.Walk.{rolesAt}
+use Rattle.grammar.specs.declared.Counts.{Counts}
+use Rattle.grammar.specs.declared.Place.{Place}
+use Rattle.grammar.specs.declared.Place.the-variants.{AtDiagram, AtTypes, AtType, AtPreds, AtPred, AtRole, AtFreq, AtEnd, Over}
+use Rattle.grammar.specs.declared.Step.{Step}
+use Rattle.grammar.specs.declared.Step.the-variants.{Refused, Next}
+use Rattle.grammar.specs.Fault.{numberOf}
+use Rattle.grammar.specs.Place.{countsOf, blockOf, typesFrom, predsFrom, groupsFrom, rolesFrom, kindAt}
+
+-- The order of a type's values, as of FIRST, LAST and SUPER
+abbrev pub inOrder : ℕ → ℕ → ℕ → Bool
+inOrder first last super = elim (eqb super 0) [ true ↦ leb first last | false ↦ eqb first 0 && eqb last 0 ]
+
+-- The first fault of a line of this kind with the numbers `v`: 2 for its ranges, then its other tests
+abbrev pub faultIn : LineKind → List ℕ → List Test → Option ℕ
+faultIn k v tests = firstOf (2 unless inRanges (ranges k) v ∷ tests)
+
+-- The tests of a `freq` line, where it is known whether a role names the group
+abbrev pub freqTests : Bool → Frequency → List Test
+freqTests used f = 4 unless leb (f .fmin) (f .fmax) ∷ 5 unless used ∷ []
+
+-- The tests of a line with the numbers `v`, after lines with the numbers `s`: those that follow its ranges
+abbrev pub testsAt : Place → List ℕ → List ℕ → List Test
+testsAt AtDiagram s v = []
+testsAt AtTypes s v = []
+testsAt (AtType types own left) s v = typeTests own (typeOf v)
+testsAt (AtPreds types) s v = []
+testsAt (AtPred c) s v = predTests (c .roles) (c .groups) (headOf v)
+testsAt (AtRole b left) s v = roleTests (b .counts .types) (b .groups) (roleOf v)
+testsAt (AtFreq b own left) s v = groupTests (rolesAt s (b .first) (b .roles)) own (groupOf v)
+testsAt (AtEnd c) s v = endTests (c .roles) (countOf v)
+testsAt (Over c) s v = []
+
+abbrev pub nextAt : Place → List ℕ → List ℕ → Place
+nextAt AtDiagram s v = AtTypes
+nextAt AtTypes s v = typesFrom (getD v 0 0) 1 (getD v 0 0)
+nextAt (AtType types own left) s v = typesFrom types (own + 1) left
+nextAt (AtPreds types) s v = predsFrom (countsOf types (getD v 0 0))
+nextAt (AtPred c) s v = rolesFrom (blockOf c (length s + length v) v) (getD v 2 0)
+nextAt (AtRole b left) s v = rolesFrom b left
+nextAt (AtFreq b own left) s v = groupsFrom b (own + 1) left
+nextAt (AtEnd c) s v = Over c
+nextAt (Over c) s v = Over c
+
+-- What a line leads to: a refusal with this number, or the next place
+pub data Stepped : Type 0 where
+  refusing : ℕ → Stepped
+  going : Place → Stepped
+
+abbrev pub stepOf : Step → Stepped
+stepOf (Refused f) = refusing (numberOf f)
+stepOf (Next p) = going p
+
+abbrev pub stepped : Option ℕ → Place → Stepped
+stepped none p = going p
+stepped (some c) p = refusing c
+
+-- Of the line with the numbers `v`, after lines with the numbers `s`
+unfoldable pub stepAt : Place → List ℕ → List ℕ → Stepped
+stepAt p s v = stepped (faultIn (kindAt p) v (testsAt p s v)) (nextAt p s v)
+
+-- Of the `pred` line with the numbers `v`, after `read` numbers
+abbrev pub predStep : Counts → ℕ → List ℕ → Stepped
+predStep c read v =
+    stepped (faultIn predLine v (predTests (c .roles) (c .groups) (headOf v)))
+    (rolesFrom (blockOf c (read + length v) v) (getD v 2 0))

@@ -1,0 +1,35 @@
+-- The walk over the lines from a place on.
+use Prim.Native.Nat.{ℕ, suc}
+use mathlib.Core.List.{List}
+use Rattle.orm.specs.Diagram.{LineKind}
+use Rattle.orm.specs.Reader.{Cut}
+use Rattle.reading.specs.Walk.{Walk, nothingLeft, fromEnd, groupsThen, rolesThen, fromPreds, fromPredsLine, fromTypes, fromTypesLine, fromStart}
+use Rattle.grammar.specs.declared.Counts.{Counts}
+use Rattle.grammar.specs.declared.Block.{Block}
+use Rattle.grammar.specs.declared.Place.{Place}
+use Rattle.grammar.specs.declared.Place.the-variants.{AtDiagram, AtTypes, AtType, AtPreds, AtPred, AtRole, AtFreq, AtEnd, Over}
+use Rattle.grammar.specs.Place.{totalsOf}
+
+-- `next` cuts off the next line
+module _ (next : LineKind → List ℕ → Cut) where
+  -- The predicates after those that the counts include
+  abbrev pub others : Counts → Walk
+  others c = fromPreds next (totalsOf c) (c .left)
+
+  abbrev pub groupsOf : Block → ℕ → ℕ → Walk
+  groupsOf b own left = groupsThen next (b .first) (b .roles) own left (others (b .counts))
+
+  abbrev pub rolesOf : Block → ℕ → ℕ → Walk
+  rolesOf b own left = rolesThen next (b .counts .types) (b .first) (b .roles) (b .groups) own left (others (b .counts))
+
+  -- From a place on
+  unfoldable pub from : Place → Walk
+  from AtDiagram acc = fromStart next acc
+  from AtTypes acc = fromTypesLine next acc
+  from (AtType types own left) acc = fromTypes next types own (suc left) acc
+  from (AtPreds types) acc = fromPredsLine next types acc
+  from (AtPred c) acc = fromPreds next (totalsOf c) (suc (c .left)) acc
+  from (AtRole b left) acc = rolesOf b 1 (suc left) acc
+  from (AtFreq b own left) acc = groupsOf b own (suc left) acc
+  from (AtEnd c) acc = fromEnd next (totalsOf c) acc
+  from (Over c) acc = nothingLeft next (totalsOf c) acc

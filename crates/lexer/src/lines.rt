@@ -1,0 +1,70 @@
+// The numbers of a line.
+use crate::Found;
+use crate::Kind;
+use crate::Numeral;
+use crate::keys::behind_key;
+use crate::keys::behind_separator;
+use crate::numbers::number_at;
+ghost use mathlib.Core.Path.{_≡_};
+ghost use Prim.Native.Nat.{_+_, _≤_};
+ghost use lib.ListN.{length, take, drop};
+ghost use Rattle.orm.specs.Text.{numbers, textLine};
+ghost use Rattle.lexer.specs.Cuts.{cutOf, kindOf, fieldsOf, lineOf};
+
+// The `n` numbers of a line, with commas between, and the line feed.
+pub fn numbers_at(n: usize, text: &[u8], start: usize, out: &mut [u32]) -> Found
+    requires { ⌜ n ≤ length (now out) ⌝ }
+    ensures { λ r. ⌜ cutOf (now (text .entry)) (take n (now (out .exit))) r ≡ numbers n (drop start (now (text .entry))) ⌝ }
+{
+    let mut i = 0;
+    let mut at = start;
+    while i < n {
+        let Numeral::Value(v, end) = number_at(text, at) else {
+            return Found::Nothing;
+        };
+        let Found::To(next) = behind_separator(n - i - 1, text, end) else {
+            return Found::Nothing;
+        };
+        out[i] = v;
+        at = next;
+        i += 1;
+    }
+    Found::To(at)
+}
+
+// The number of values on a line.
+pub fn fields_of(kind: Kind) -> usize
+    ensures { λ r. ⌜ r ≡ fieldsOf kind ⌝ }
+    ensures { λ r. ⌜ r ≤ 6 ⌝ }
+{
+    match kind {
+        Kind::TypeLine => 6,
+        Kind::PredLine => 4,
+        Kind::RoleLine => 3,
+        Kind::FreqLine => 2,
+        Kind::DiagramLine => 1,
+        Kind::TypesLine => 1,
+        Kind::PredsLine => 1,
+        Kind::EndLine => 1,
+    }
+}
+
+// The numbers of the line of this kind that starts at `at`, and where the next line starts.
+pub fn text_line(kind: Kind, text: &[u8], at: usize, out: &mut [u32]) -> Found
+    requires { ⌜ fieldsOf kind ≤ length (now out) ⌝ }
+    ensures { λ r. ⌜ lineOf kind (now (text .entry)) (now (out .exit)) r ≡ textLine (kindOf kind) (drop at (now (text .entry))) ⌝ }
+{
+    let Found::To(values) = behind_key(kind, text, at) else {
+        return Found::Nothing;
+    };
+    numbers_at(fields_of(kind), text, values, out)
+}
+
+// The same; the numbers go to the table at `end`.
+pub fn write_line(kind: Kind, text: &[u8], at: usize, table: &mut [u32], end: usize) -> Found
+    requires { ⌜ end + fieldsOf kind ≤ length (now table) ⌝ }
+    ensures { λ r. ⌜ lineOf kind (now (text .entry)) (drop end (now (table .exit))) r ≡ textLine (kindOf kind) (drop at (now (text .entry))) ⌝ }
+    ensures { λ _. ⌜ take end (now (table .exit)) ≡ take end (now (table .entry)) ⌝ }
+{
+    text_line(kind, text, at, &mut table[end..])
+}

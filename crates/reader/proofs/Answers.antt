@@ -1,0 +1,108 @@
+-- The answers of the public functions, from how the lines end.
+use Prim.Native.Nat.{ℕ, _≤_}
+use native.Mathlib.Omega.{arith}
+use mathlib.Core.Path.{_≡_, refl, sym, ap, _∙_, subst}
+use mathlib.Core.List.{List}
+use lib.ListN.{length, take}
+use Rattle.orm.specs.Diagram.{Diagram, table, totals}
+use Rattle.orm.specs.Text.{textLine, tableLine}
+use Rattle.orm.specs.Outcome.{Outcome, refused, accepted, lengthOf, fitted, bufferAfter}
+use Rattle.orm.specs.Calls.{diagramIn, readCall}
+use Rattle.reading.specs.Walk.{Summary, summary}
+use Rattle.grammar.specs.declared.Fault.{Fault}
+use Rattle.grammar.specs.declared.Counts.{Counts}
+use Rattle.grammar.specs.Fault.{numberOf}
+use Rattle.grammar.specs.Place.{totalsOf}
+use Rattle.reader.specs.declared.Line.{Line}
+use Rattle.reader.specs.declared.Line.the-variants.{Halted, Reached}
+use Rattle.reader.specs.declared.Lines.{Lines}
+use Rattle.reader.specs.declared.Lines.the-variants.{Faulty, Whole}
+use Rattle.reader.specs.declared.ReadAnswer.{ReadAnswer}
+use Rattle.reader.specs.Answer.{readOf, totalled}
+use Rattle.reader.specs.Lines.{summarised, linesOf, InsideAt, Inside}
+use Rattle.reader.specs.Reach.{refusalOf}
+
+was-refused : (o : Outcome Diagram) (c p : ℕ) → refused c p 0 ≡ summarised o → o ≡ refused c p 0
+was-refused (refused c′ p′ r) c p e = sym (ap same e)
+  where
+    same : Outcome Summary → Outcome Diagram
+    same (refused c p r) = refused c p r
+    same (accepted a) = refused 0 0 0
+was-refused (accepted d) c p e = let z : _≡_ {A = ℕ} 0 1 = cc in absurd (omega arith)
+
+was-accepted : (o : Outcome Diagram) (s : Summary) → accepted s ≡ summarised o → (d : Diagram) × (o ≡ accepted d) × (s ≡ summary d)
+was-accepted (refused c p r) s e = let z : _≡_ {A = ℕ} 0 1 = cc in absurd (omega arith)
+was-accepted (accepted d) s e = (d, refl, cc)
+
+module _ (numbers : List ℕ) (l : Lines) (o : Outcome Diagram) (e : linesOf numbers l ≡ summarised o) where
+  faulty : {f : Fault} {line : ℕ} → l ≡ Faulty f line → o ≡ refused (numberOf f) line 0
+  faulty {f} {line} q = was-refused o (numberOf f) line (subst (λ (k : Lines). linesOf numbers k ≡ summarised o) q e)
+
+  whole : {n : ℕ} {c : Counts} → l ≡ Whole n c
+      → (d : Diagram) × (o ≡ accepted d) × (record { numbers = take n numbers; totals = totalsOf c } ≡ summary d)
+  whole q = was-accepted o _ (subst (λ (k : Lines). linesOf numbers k ≡ summarised o) q e)
+
+-- ---- read
+
+module _ (text numbers : List ℕ) (l : Lines) (e : linesOf numbers l ≡ summarised (diagramIn textLine text)) where
+  module _ {f : Fault} {line : ℕ} (q : l ≡ Faulty f line) where
+    call-refused : (space : ℕ) → readCall text space ≡ refused (numberOf f) line 0
+    unfolding readCall
+    call-refused space = rw (faulty numbers l (diagramIn textLine text) e q)
+
+    pub refused-outcome : (t : List ℕ) → refused (numberOf f) line 0 ≡ lengthOf (readCall text (length t))
+    refused-outcome t = sym (ap lengthOf (call-refused (length t)))
+
+    pub refused-kept : (t : List ℕ) → t ≡ bufferAfter (readCall text (length t)) t
+    unfolding bufferAfter
+    refused-kept t = sym (ap (λ (o : Outcome (List ℕ)). bufferAfter o t) (call-refused (length t)))
+
+  module _ {n : ℕ} {c : Counts} (q : l ≡ Whole n c) where
+    call-fitted : (space : ℕ) → fitted space (take n numbers) ≡ readCall text space
+    unfolding readCall summary
+    call-fitted space =
+        let w = whole numbers l (diagramIn textLine text) e q in
+        let same : take n numbers ≡ table (w .0) = ap (λ (s : Summary). s .numbers) (w .2) in
+        rw (w .1) (ap (fitted space) same)
+
+    pub whole-outcome : (t : List ℕ) (r : ReadAnswer) → readOf r ≡ lengthOf (fitted (length t) (take n numbers))
+        → readOf r ≡ lengthOf (readCall text (length t))
+    whole-outcome t r w = w ∙ ap lengthOf (call-fitted (length t))
+
+    pub whole-written : (t : List ℕ) {t′ : List ℕ} → t′ ≡ bufferAfter (fitted (length t) (take n numbers)) t
+        → t′ ≡ bufferAfter (readCall text (length t)) t
+    whole-written t w = w ∙ ap (λ (o : Outcome (List ℕ)). bufferAfter o t) (call-fitted (length t))
+
+-- ---- the numbers stand within the local table
+
+pub inside : (numbers numbers′ : List ℕ) {l : Lines} {n : ℕ} {c : Counts} → Inside 708 l → l ≡ Whole n c → length numbers ≡ 708
+    → length numbers′ ≡ length numbers → n ≤ length numbers′
+inside numbers numbers′ {l} {n} {c} w q h k =
+    let x : InsideAt 708 (Whole n c) = subst (λ (m : Lines). InsideAt 708 m) q (w .at) in
+    omega arith
+
+pub inside-refusal : (line : Line) (n : ℕ) {r : Lines} → r ≡ refusalOf line n → Inside 708 r
+inside-refusal line n e = rw e (go line)
+  where
+    go : (line : Line) → Inside 708 (refusalOf line n)
+    go (Halted f) = record { at = tt }
+    go (Reached p at end) = record { at = tt }
+
+pub inside-faulty : (f : Fault) (line : ℕ) → Inside 708 (Faulty f line)
+inside-faulty f line = record { at = tt }
+
+pub inside-whole : (n : ℕ) (c : Counts) → n ≤ 708 → Inside 708 (Whole n c)
+inside-whole n c h = record { at = h }
+
+-- ---- form
+
+module _ (t : List ℕ) (l : Lines) (e : linesOf t l ≡ summarised (diagramIn tableLine t)) where
+  pub form-refused : {f : Fault} {line : ℕ} → l ≡ Faulty f line → refused (numberOf f) line 0 ≡ totalled (diagramIn tableLine t)
+  form-refused q = rw (faulty t l (diagramIn tableLine t) e q)
+
+  pub form-accepted : {n : ℕ} {c : Counts} → l ≡ Whole n c
+      → accepted (record { types = c .types; preds = c .preds; roles = c .roles; groups = c .groups }) ≡ totalled (diagramIn tableLine t)
+  unfolding summary
+  form-accepted q =
+      let w = whole t l (diagramIn tableLine t) e q in
+      rw (w .1) (ap (λ (s : Summary). accepted (s .totals)) (w .2))

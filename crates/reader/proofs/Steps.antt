@@ -1,0 +1,133 @@
+-- One line of a text or of a table.
+use Prim.Native.Nat.{ℕ, _+_, _≤_, _<_}
+use native.Mathlib.Omega.{arith}
+use mathlib.Core.Path.{_≡_, refl, sym, ap, ap₂, _∙_}
+use mathlib.Core.Bool.{true}
+use mathlib.Core.List.{List, _++_}
+use mir.Syntax.{w64}
+use mir.Val.{Fits}
+use lib.ListN.{length, take, drop, length-drop}
+use lib.Seq.{length-take-le, take-add, drop-drop}
+use Rattle.orm.specs.Diagram.{LineKind}
+use Rattle.orm.specs.Reader.{Cut, broken, cut}
+use Rattle.orm.specs.Text.{textLine, tableLine}
+use Rattle.reading.specs.Cutting.{table-short, table-long}
+use Rattle.lexer.specs.declared.Kind.{Kind}
+use Rattle.lexer.specs.declared.Found.{Found}
+use Rattle.lexer.specs.declared.Found.the-variants.{To, Nothing}
+use Rattle.lexer.specs.Cuts.{kindOf, cutOf, fieldsOf}
+use Rattle.grammar.specs.declared.Fault.{Fault}
+use Rattle.grammar.specs.declared.Fault.the-variants.{Malformed}
+use Rattle.grammar.specs.declared.Place.{Place}
+use Rattle.grammar.specs.declared.Step.{Step}
+use Rattle.grammar.specs.declared.Step.the-variants.{Refused, Next}
+use Rattle.grammar.specs.Place.{kindAt, isGoing, fieldsAt}
+use Rattle.grammar.specs.Step.{stepOf, stepAt}
+use Rattle.grammar.specs.Room.{Room}
+use Rattle.grammar.specs.Laws.Room.{fields-at, line-room}
+use Rattle.reader.specs.declared.Line.{Line}
+use Rattle.reader.specs.declared.Line.the-variants.{Halted, Reached}
+use Rattle.reader.specs.declared.Lines.the-variants.{Faulty}
+use Rattle.reader.specs.Reach.{halted, lineOf, reachOf, lineStep, Level, refusalOf}
+
+-- ---- answers by cases
+
+pub reach-refused : {s : Step} (f : Fault) (at end : ℕ) → s ≡ Refused f → Halted f ≡ reachOf s at end
+reach-refused f at end e = rw e
+
+pub reach-next : {s : Step} (p : Place) (at end : ℕ) → s ≡ Next p → Reached p at end ≡ reachOf s at end
+reach-next p at end e = rw e
+
+pub halted-refusal : {l : Line} (f : Fault) (n : ℕ) → l ≡ Halted f → Faulty f n ≡ refusalOf l n
+halted-refusal f n e = rw e
+
+pub reached-refusal : {l : Line} {p : Place} {at end : ℕ} (n : ℕ) → l ≡ Reached p at end → Faulty Malformed n ≡ refusalOf l n
+reached-refusal n e = rw e
+
+-- ---- room
+
+module _ {p : Place} {end : ℕ} (w : Room p end) (g : isGoing p ≡ true) where
+  pub room-write : (kind : Kind) (table : List ℕ) → fieldsOf kind ≡ fieldsAt p → length table ≡ 708 → end + fieldsOf kind ≤ length table
+  room-write kind table e l = omega (arith, line-room p end g (w .known))
+
+  pub room-fits : (n : ℕ) → n ≤ 6 → Fits w64 (end + n)
+  room-fits n l = record { fits = omega (arith, line-room p end g (w .known)) }
+
+  pub room-check : (kind : Kind) {n : ℕ} (table table′ : List ℕ) → n ≡ fieldsOf kind → fieldsOf kind ≡ fieldsAt p → length table ≡ 708
+      → length table′ ≡ length table → end + n ≤ length table′
+  room-check kind table table′ q e l l′ = omega (arith, line-room p end g (w .known))
+
+pub fields-same : (p : Place) (kind : Kind) {n : ℕ} (end : ℕ) → n ≡ fieldsOf kind → fieldsOf kind ≡ fieldsAt p → end + n ≡ end + fieldsAt p
+fields-same p kind end q e = ap (λ (k : ℕ). end + k) (q ∙ e)
+
+-- ---- a line that is cut off leads where its step says
+
+led : (next : LineKind → List ℕ → Cut) (p : Place) (acc s v source table : List ℕ) (at end : ℕ) (st : Step)
+    → next (kindAt p) s ≡ cut v (drop at source) → stepOf st ≡ stepAt p acc v → take end table ≡ acc ++ v → end ≡ length acc + length v
+    → lineOf source table (reachOf st at end) ≡ lineStep next p acc s
+unfolding lineStep
+led next p acc s v source table at end (Refused f) c e t l = rw (c, ← e, lineStep)
+led next p acc s v source table at end (Next q) c e t l = rw (c, ← e, lineStep, t, l)
+
+-- the numbers of a line behind those so far
+module _ (p : Place) (table : List ℕ) (end : ℕ) (h : end + fieldsAt p ≤ length table) where
+  so-far : take (end + fieldsAt p) table ≡ take end table ++ take (fieldsAt p) (drop end table)
+  so-far = take-add end (fieldsAt p) table
+
+  so-many : end + fieldsAt p ≡ length (take end table) + length (take (fieldsAt p) (drop end table))
+  so-many = sym (ap₂ (λ (a b : ℕ). a + b) (length-take-le end table (omega arith))
+      (length-take-le (fieldsAt p) (drop end table) (omega (arith, length-drop end table))))
+
+-- ---- of a text
+
+module _ (p : Place) (kind : Kind) (ek : kindOf kind ≡ kindAt p) (text : List ℕ) (at : ℕ) where
+  pub text-broken : (v : List ℕ) (f : Found) (acc : List ℕ) → cutOf text v f ≡ textLine (kindOf kind) (drop at text) → f ≡ Nothing
+      → halted 1 ≡ lineStep textLine p acc (drop at text)
+  unfolding lineStep
+  text-broken v f acc e q = let c : textLine (kindAt p) (drop at text) ≡ broken = rw (ek, q) at (sym e) in rw (c, lineStep)
+
+  pub text-reached : (table table′ : List ℕ) (end : ℕ) {n next : ℕ} (f : Found) (st : Step) {r : Line}
+      → fieldsOf kind ≡ fieldsAt p → n ≡ fieldsOf kind → end + n ≤ length table′ → take end table′ ≡ take end table
+      → cutOf text (take (fieldsOf kind) (drop end table′)) f ≡ textLine (kindOf kind) (drop at text) → f ≡ To next
+      → stepOf st ≡ stepAt p (take end table′) (take (fieldsAt p) (drop end table′)) → r ≡ reachOf st next (end + n)
+      → lineOf text table′ r ≡ lineStep textLine p (take end table) (drop at text)
+  text-reached table table′ end {n} {next} f st ef en l t e q s er =
+      let h : end + fieldsAt p ≤ length table′ = omega arith in
+      let v = take (fieldsAt p) (drop end table′) in
+      let c : textLine (kindAt p) (drop at text) ≡ cut v (drop next text) = rw (ek, q, ef) at (sym e) in
+      rw (er, en, ef, ← t)
+      (led textLine p (take end table′) (drop at text) v text table′ next (end + fieldsAt p) st c s
+      (so-far p table′ end h) (so-many p table′ end h))
+
+-- ---- of a table
+
+module _ (p : Place) (kind : Kind) (table : List ℕ) (at : ℕ) {n : ℕ} (ef : fieldsOf kind ≡ fieldsAt p) (en : n ≡ fieldsOf kind) where
+  pub table-broken : at ≤ length table → length table < at + n → (acc : List ℕ) → halted 1 ≡ lineStep tableLine p acc (drop at table)
+  unfolding lineStep
+  table-broken h l acc =
+      let c : tableLine (kindAt p) (drop at table) ≡ broken =
+      table-short (kindAt p) (drop at table) (omega (arith, length-drop at table, fields-at p)) in
+      rw (c, lineStep)
+
+  pub table-reached : (st : Step) {r : Line} → at + n ≤ length table
+      → stepOf st ≡ stepAt p (take at table) (take (fieldsAt p) (drop at table)) → r ≡ reachOf st (at + n) (at + n)
+      → lineOf table table r ≡ lineStep tableLine p (take at table) (drop at table)
+  table-reached st l s er =
+      let h : at + fieldsAt p ≤ length table = omega arith in
+      let v = take (fieldsAt p) (drop at table) in
+      let c : tableLine (kindAt p) (drop at table) ≡ cut v (drop (at + fieldsAt p) table) =
+      rw (fields-at p) at (table-long (kindAt p) (drop at table) (omega (arith, length-drop at table, fields-at p)))
+      ∙ ap (cut v) (drop-drop (fieldsAt p) at table) in
+      rw (er, en, ef)
+      (led tableLine p (take at table) (drop at table) v table table (at + fieldsAt p) (at + fieldsAt p) st c s
+      (so-far p table at h) (so-many p table at h))
+
+  pub halted-level : (f : Fault) → Level (length table) (Halted f)
+  halted-level f = record { at = tt }
+
+  pub reached-level : (st : Step) {r : Line} → at + n ≤ length table → r ≡ reachOf st (at + n) (at + n) → Level (length table) r
+  reached-level st h er = rw er (go st)
+    where
+      go : (st : Step) → Level (length table) (reachOf st (at + n) (at + n))
+      go (Refused f) = record { at = tt }
+      go (Next q) = record { at = (refl, h) }

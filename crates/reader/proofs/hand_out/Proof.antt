@@ -1,0 +1,15 @@
+-- `reader::hand_out` meets its contract.
+-- Assumes nothing.
+use Rattle.reader.proofs.Copied.{short-outcome, short-kept, fits-outcome, fits-written}
+use borrow.Author.Needs.{needs}
+use Rattle.reader.proofs.hand_out.Statement.{statement}
+use Rattle.reader.proofs.hand_out.Tie as tie
+
+pub hand-out-spec : {M : Type 1} → statement M
+hand-out-spec =
+    tie.close
+    (tie.spec
+    (λ c. search (needs, short-outcome, short-kept))
+    (λ c κs. search needs)
+    (λ c. search needs)
+    (λ c. search (needs, fits-outcome, fits-written)))

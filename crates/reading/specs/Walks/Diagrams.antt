@@ -1,0 +1,159 @@
+-- The walk over a whole text or table comes to the reading: the same refusals, and of a diagram its table and its totals.
+use Prim.Native.Nat.{ℕ, zero, suc, _+_}
+use native.Mathlib.Omega.{arith}
+use native.Mathlib.Nat.{zero-add}
+use mathlib.Core.Path.{_≡_, refl, sym, ap, _∙_}
+use mathlib.Core.List.{List, [], _∷_, _++_, map, flatMap, append-assoc}
+use lib.ListN.{length, getD}
+use Rattle.counting.specs.Lists.{upFrom}
+use Rattle.orm.specs.Diagram.{ObjectType, Predicate, Diagram, Line, Totals, totals, allRoles, allGroups, LineKind, diagramLine, typesLine, typeLine, predsLine, endLine, lineOfType, lineOfCount, linesOfPred, lines, table}
+use Rattle.orm.specs.Reader.{Reading, rejected, read, Reader, _>>=_, pure, forEach, atEnd, Cut}
+use Rattle.orm.specs.Laws.Readers.{bind-cases}
+use Rattle.orm.specs.Form.{ranges, fields, countOf, typeOf, typeTests, endTests, line, count, predicate, predicates, diagramLines, wholeDiagram, reading}
+use Rattle.reading.specs.Exact.{written, written-append}
+use Rattle.reading.specs.Lines.{Cuts}
+use Rattle.reading.specs.Cutting.{tableForm}
+use Rattle.reading.specs.Spelling.{type-spelling, count-spelling}
+use Rattle.reading.specs.Kinds.{count-exact, end-only}
+use Rattle.reading.specs.Walk.{Summary, summary, noRoles, nothingLeft, fromEnd, fromPreds, fromPredsLine, fromTypes, fromTypesLine, fromStart}
+use Rattle.reading.specs.Walks.Lines.{resume, numbersOf, one-line, lines-each}
+use Rattle.reading.specs.Walks.Predicates.{numbered-read, rolesIn, groupsIn, ending, preds-same}
+
+predicates-length : (next : LineKind → List ℕ → Cut) (t r g k n : ℕ) (s : List ℕ) {ps : List Predicate} {n′ : ℕ} {rest : List ℕ}
+    → predicates next t r g k n s ≡ read ps n′ rest → length ps ≡ k
+unfolding predicates
+predicates-length next t r g zero n s {ps} e = let z : [] ≡ ps = cc in ap length (sym z)
+predicates-length next t r g (suc k) n s {ps} e =
+    bind-cases (predicate next t r g) _ n s e λ p i u h e′.
+    bind-cases (predicates next t (r + length (p .roles)) (g + length (p .groups)) k) _ i u e′ λ qs j w h′ e″.
+    let z : p ∷ qs ≡ ps = cc in
+    ap length (sym z) ∙ ap suc (predicates-length next t _ _ k i u h′)
+
+-- The numbers of all lines are the table
+table-numbers : (ts : List ObjectType) (ps : List Predicate)
+    → ((((1 ∷ length ts ∷ []) ++ numbersOf (map lineOfType ts)) ++ length ps ∷ []) ++ numbersOf (flatMap linesOfPred ps)) ++ rolesIn ps ∷ []
+    ≡ table (record { types = ts; preds = ps })
+unfolding table lines written lineOfCount allRoles flatMap
+table-numbers ts ps =
+    let d : Diagram = record { types = ts; preds = ps } in
+    let types-lines : List Line = map lineOfType ts in
+    let preds-lines : List Line = lineOfCount predsLine (length ps) ∷ flatMap linesOfPred ps in
+    let last-line : List Line = lineOfCount endLine (length (allRoles d)) ∷ [] in
+    sym (ap (λ (l : List ℕ). 1 ∷ length ts ∷ l)
+    (written-append tableForm (types-lines ++ preds-lines) last-line
+    ∙ ap (λ (l : List ℕ). l ++ rolesIn ps ∷ [])
+    (written-append tableForm types-lines preds-lines
+    ∙ sym (append-assoc (numbersOf types-lines) (length ps ∷ []) (numbersOf (flatMap linesOfPred ps))))))
+
+-- What is told of a diagram that was read
+abbrev pub told : Reading Diagram → Reading Summary
+told r = resume r (λ d n rest. read (summary d) n rest)
+
+-- Nothing is left behind the diagram
+abbrev finish : Diagram → Reader Diagram
+finish d = atEnd 1 >>= λ u. pure d
+
+abbrev closed : Reader Diagram → Reader Summary
+closed m n r = told (resume (m n r) finish)
+
+-- One reader more before the rest
+stage : {A : Type 0} (m : Reader A) (f : A → Reader Diagram) (g : A → Reader Summary) (n : ℕ) (r : List ℕ)
+    → ((a : A) (n′ : ℕ) (r′ : List ℕ) → m n r ≡ read a n′ r′ → g a n′ r′ ≡ closed (f a) n′ r′) → resume (m n r) g ≡ closed (m >>= f) n r
+stage {A} m f g n r h = go (m n r) refl
+  where
+    go : (o : Reading A) → m n r ≡ o → resume o g ≡ told (resume (resume o f) finish)
+    go (rejected c at) q = refl
+    go (read a n′ r′) q = h a n′ r′ q
+
+module _ {form : LineKind → List ℕ → List ℕ} (next : LineKind → List ℕ → Cut) (cuts : Cuts form next) where
+  -- what is still to be read, from the end of the file to its start
+  abbrev toEnd : List ObjectType → List Predicate → Reader Diagram
+  toEnd ts ps = line next endLine countOf (endTests (rolesIn ps)) >>= λ e. pure (record { types = ts; preds = ps })
+
+  abbrev toPredicates : ℕ → List ObjectType → ℕ → Reader Diagram
+  toPredicates t ts p = predicates next t 0 0 p >>= toEnd ts
+
+  abbrev toPreds : ℕ → List ObjectType → Reader Diagram
+  toPreds t ts = count next predsLine >>= toPredicates t ts
+
+  abbrev toTypes : ℕ → Reader Diagram
+  toTypes t = forEach (λ (i : ℕ). line next typeLine typeOf (typeTests i)) (upFrom 1 t) >>= toPreds t
+
+  abbrev upToTypes : ℕ → List ObjectType → List ℕ
+  upToTypes t ts = (1 ∷ t ∷ []) ++ numbersOf (map lineOfType ts)
+
+  abbrev upToPreds : ℕ → List ObjectType → ℕ → List Predicate → List ℕ
+  upToPreds t ts p ps = (upToTypes t ts ++ p ∷ []) ++ numbersOf (flatMap linesOfPred ps)
+
+  abbrev totalsOf : ℕ → ℕ → List Predicate → Totals
+  totalsOf t p ps = record { types = t; preds = p; roles = rolesIn ps; groups = groupsIn ps }
+
+  module _ (t : ℕ) (ts : List ObjectType) (as-many : length ts ≡ t) where
+    -- the numbers and totals are those of the diagram
+    closes : (ps : List Predicate) (p e : ℕ) → length ps ≡ p → e ≡ rolesIn ps → (n : ℕ) (r : List ℕ)
+        → nothingLeft next (totalsOf t p ps) (upToPreds t ts p ps ++ e ∷ []) n r
+        ≡ closed (pure (record { types = ts; preds = ps })) n r
+    unfolding nothingLeft atEnd summary totals allRoles allGroups
+    closes ps p e ep ee n (x ∷ r) = refl
+    closes ps p e ep ee n [] =
+        rw (← as-many, ← ep, ee)
+        (ap (λ (l : List ℕ). read (record { numbers = l; totals = totalsOf (length ts) (length ps) ps }) n []) (table-numbers ts ps))
+
+    from-end : (ps : List Predicate) (p : ℕ) → length ps ≡ p → (n : ℕ) (s : List ℕ)
+        → ending next cuts (noRoles t p) (upToTypes t ts ++ p ∷ []) ps n s ≡ closed (toEnd ts ps) n s
+    unfolding fromEnd fields ranges lineOfCount
+    from-end ps p ep n s =
+        rw (zero-add (rolesIn ps), zero-add (groupsIn ps))
+        (one-line next cuts endLine countOf (lineOfCount endLine) (count-spelling endLine refl) (endTests (rolesIn ps))
+        (λ v. endTests (rolesIn ps) (countOf v)) (λ v. nothingLeft next (totalsOf t p ps)) (upToPreds t ts p ps) n s (λ v. refl)
+        ∙ stage (line next endLine countOf (endTests (rolesIn ps))) (λ e. pure (record { types = ts; preds = ps }))
+        (λ e. nothingLeft next (totalsOf t p ps) (upToPreds t ts p ps ++ e ∷ [])) n s
+        (λ e n′ s′ q. closes ps p e ep (end-only next cuts (rolesIn ps) n s q) n′ s′))
+
+    from-predicates : (p n : ℕ) (s : List ℕ)
+        → fromPreds next (noRoles t p) p (upToTypes t ts ++ p ∷ []) n s ≡ closed (toPredicates t ts p) n s
+    from-predicates p n s =
+        preds-same next cuts p (noRoles t p) (upToTypes t ts ++ p ∷ []) n s
+        ∙ stage (predicates next t 0 0 p) (toEnd ts) (ending next cuts (noRoles t p) (upToTypes t ts ++ p ∷ [])) n s
+        (λ ps n′ s′ q. from-end ps p (predicates-length next t 0 0 p n s q) n′ s′)
+
+    from-preds-line : (n : ℕ) (s : List ℕ) → fromPredsLine next t (upToTypes t ts) n s ≡ closed (toPreds t ts) n s
+    unfolding fromPredsLine count fields ranges lineOfCount
+    from-preds-line n s =
+        one-line next cuts predsLine countOf (lineOfCount predsLine) (count-spelling predsLine refl) (λ m. []) (λ v. [])
+        (λ v. fromPreds next (noRoles t (getD v 0 0)) (getD v 0 0)) (upToTypes t ts) n s (λ v. refl)
+        ∙ stage (count next predsLine) (toPredicates t ts) (λ p. fromPreds next (noRoles t p) p (upToTypes t ts ++ p ∷ [])) n s
+        (λ p n′ s′ q. from-predicates p n′ s′)
+
+  from-types : (t n : ℕ) (s : List ℕ) → fromTypes next t 1 t (1 ∷ t ∷ []) n s ≡ closed (toTypes t) n s
+  unfolding fromTypes
+  from-types t n s =
+      lines-each next cuts typeLine typeOf lineOfType type-spelling typeTests (λ i l v. typeTests i (typeOf v)) (fromPredsLine next t) 1 t
+      (1 ∷ t ∷ []) n s (λ ext i v. refl)
+      ∙ stage (forEach (λ (i : ℕ). line next typeLine typeOf (typeTests i)) (upFrom 1 t)) (toPreds t)
+      (λ ts. fromPredsLine next t (upToTypes t ts)) n s
+      (λ ts n′ s′ q. from-preds-line t ts (numbered-read _ t n s ts n′ s′ q) n′ s′)
+
+  from-types-line : (first : ℕ) → first ≡ 1 → (n : ℕ) (s : List ℕ)
+      → fromTypesLine next (first ∷ []) n s ≡ closed (count next typesLine >>= toTypes) n s
+  unfolding fromTypesLine count fields ranges lineOfCount
+  from-types-line first one n s =
+      rw one
+      (one-line next cuts typesLine countOf (lineOfCount typesLine) (count-spelling typesLine refl) (λ m. []) (λ v. [])
+      (λ v. fromTypes next (getD v 0 0) 1 (getD v 0 0)) (1 ∷ []) n s (λ v. refl)
+      ∙ stage (count next typesLine) toTypes (λ t. fromTypes next t 1 t (1 ∷ t ∷ [])) n s
+      (λ t n′ s′ q. from-types t n′ s′))
+
+  first-is : (n : ℕ) (s : List ℕ) (a n′ : ℕ) (rest : List ℕ) → count next diagramLine n s ≡ read a n′ rest → a ≡ 1
+  unfolding ranges
+  first-is n s a n′ rest e =
+      let h = count-exact form next cuts diagramLine 1 1 refl (omega arith) .only n s a n′ rest e .valid in
+      omega arith
+
+  pub walk-reads : (s : List ℕ) → fromStart next [] 1 s ≡ told (reading next s)
+  unfolding fromStart reading wholeDiagram diagramLines count fields ranges lineOfCount allRoles
+  walk-reads s =
+      one-line next cuts diagramLine countOf (lineOfCount diagramLine) (count-spelling diagramLine refl) (λ m. []) (λ v. [])
+      (λ v. fromTypesLine next) [] 1 s (λ v. refl)
+      ∙ stage (count next diagramLine) (λ first. count next typesLine >>= toTypes) (λ first. fromTypesLine next (first ∷ [])) 1 s
+      (λ first n′ s′ q. from-types-line first (first-is 1 s first n′ s′ q) n′ s′)

@@ -1,16 +1,11 @@
--- Numbers written into a buffer one after another, and the laws by which such writings are put together.
+-- Numbers written into a buffer one after another.
 -- A function that writes the numbers `xs` from the index `at` on ensures `Wrote`; it asks for no room, since a full buffer stays as it is.
--- Code after code writes `xs ++ ys` (`wrote-then`); a loop keeps `Writing`: what is left to write comes to the whole.
-use Prim.Native.Nat.{ℕ, zero, suc, _+_, _-_, _≤_, _<_}
-use native.Mathlib.Numerals.{add-one}
-use native.Mathlib.Omega.{arith}
-use mathlib.Core.Path.{_≡_, refl, sym, ap, _∙_}
-use mathlib.Core.Bool.{Bool, true, false}
+use Prim.Native.Nat.{ℕ, suc}
+use mathlib.Core.Path.{_≡_}
+use mathlib.Core.Bool.{true, false}
 use mathlib.Core.List.{List, [], _∷_, _++_}
 use lib.Dec.{ltb}
-use lib.ListN.{length, getD, take, drop, set, replicate, length-set, drop-of-length-le}
-use lib.Seq.{sets, sets-eq, take-append-seam, drop-cons}
-use borrow.Author.Tests.{lt-ltb, le-ltb}
+use lib.ListN.{length, set}
 
 -- A buffer and the index at which the next number goes
 pub record Output : Type 0 where
@@ -24,7 +19,7 @@ unfoldable pub puts : Output → List ℕ → Output
 puts s [] = s
 puts s (x ∷ xs) = puts (put s x) xs
 
-abbrev output : List ℕ → ℕ → Output
+abbrev pub output : List ℕ → ℕ → Output
 output o at = record { buffer = o; at = at }
 
 -- From the buffer `o` and the index `at`, `xs` was written, which leaves the buffer `o′` and the index `to`
@@ -38,118 +33,3 @@ pub record Writing (o : List ℕ) (at : ℕ) (whole o′ : List ℕ) (to : ℕ) 
 -- What is left, `rest`, is `xs` and then `ys`
 pub record Splits (rest xs ys : List ℕ) : Type 0 where
   pub is : rest ≡ xs ++ ys
-
--- ---- laws
-
-puts-append : (s : Output) (xs ys : List ℕ) → puts s (xs ++ ys) ≡ puts (puts s xs) ys
-unfolding puts
-puts-append s [] ys = refl
-puts-append s (x ∷ xs) ys = puts-append (put s x) xs ys
-
-put-long : (s : Output) (x : ℕ) → length (put s x .buffer) ≡ length (s .buffer)
-unfolding put
-put-long s x = go (ltb (s .at) (length (s .buffer)))
-  where
-    go : (b : Bool) → length
-        (elim b as (λ _. Output) [ true ↦ record { buffer = set (s .buffer) (s .at) x; at = suc (s .at) } | false ↦ s ] .buffer) ≡ length (s .buffer)
-    go true = length-set (s .buffer) (s .at) x
-    go false = refl
-
-puts-long : (s : Output) (xs : List ℕ) → length (puts s xs .buffer) ≡ length (s .buffer)
-unfolding puts
-puts-long s [] = refl
-puts-long s (x ∷ xs) = puts-long (put s x) xs ∙ put-long s x
-
--- with room for them all, they are stored one after another
-puts-room : (s : Output) (xs : List ℕ) → s .at + length xs ≤ length (s .buffer) → puts s xs ≡ output (sets (s .buffer) (s .at) xs) (s .at + length xs)
-unfolding puts put
-puts-room s [] h = let e : s .at ≡ s .at + 0 = omega arith in ap (output (s .buffer)) e
-puts-room s (x ∷ xs) h =
-    let here : s .at < length (s .buffer) = omega arith in
-    let s′ : Output = output (set (s .buffer) (s .at) x) (suc (s .at)) in
-    let long : length (set (s .buffer) (s .at) x) ≡ length (s .buffer) = length-set (s .buffer) (s .at) x in
-    let e : suc (s .at) + length xs ≡ s .at + suc (length xs) = omega arith in
-    rw (lt-ltb (s .at) (length (s .buffer)) here, put) (puts-room s′ xs (omega arith) ∙ ap (output (sets (s .buffer) (s .at) (x ∷ xs))) e)
-
-module _ {o o′ xs : List ℕ} {at to : ℕ} (w : Wrote o at xs o′ to) where
-  pub wrote-long : length o′ ≡ length o
-  wrote-long = ap (λ (s : Output). length (s .buffer)) (w .is) ∙ puts-long (output o at) xs
-
-  pub wrote-then : {o″ ys : List ℕ} {to′ : ℕ} → Wrote o′ to ys o″ to′ → Wrote o at (xs ++ ys) o″ to′
-  wrote-then {o″} {ys} v = record { is = v .is ∙ ap (λ (s : Output). puts s ys) (w .is) ∙ sym (puts-append (output o at) xs ys) }
-
-  pub wrote-as : {ys : List ℕ} → xs ≡ ys → Wrote o at ys o′ to
-  wrote-as e = record { is = w .is ∙ ap (puts (output o at)) e }
-
-pub wrote-cons : {o o′ o″ xs : List ℕ} {at to to′ x : ℕ} → Wrote o at (x ∷ []) o′ to → Wrote o′ to xs o″ to′ → Wrote o at (x ∷ xs) o″ to′
-wrote-cons w v = wrote-then w v
-
--- what stands at the front after a writing from the index 0
-module _ {o o′ xs : List ℕ} {to : ℕ} (w : Wrote o 0 xs o′ to) (room : length xs ≤ length o) where
-  stored : output o′ to ≡ output (sets o 0 xs) (length xs)
-  stored =
-      let h : 0 + length xs ≤ length o = omega arith in
-      let e : 0 + length xs ≡ length xs = omega arith in
-      w .is ∙ puts-room (output o 0) xs h ∙ ap (output (sets o 0 xs)) e
-
-  pub wrote-end : to ≡ length xs
-  wrote-end = ap (λ (s : Output). s .at) stored
-
-  pub wrote-front : take to o′ ≡ xs
-  wrote-front = ap (λ (s : Output). take (s .at) (s .buffer)) stored ∙ ap (take (length xs)) (sets-eq xs o 0 (omega arith)) ∙ take-append-seam xs
-      (drop (0 + length xs) o)
-
-  pub wrote-within : to ≤ length o′
-  wrote-within = omega (arith, wrote-end, wrote-long w)
-
-  pub wrote-whole : o′ ≡ xs ++ drop (length xs) o
-  wrote-whole =
-      let e : 0 + length xs ≡ length xs = omega arith in
-      ap (λ (s : Output). s .buffer) stored ∙ sets-eq xs o 0 (omega arith) ∙ ap (λ (n : ℕ). xs ++ drop n o) e
-
--- nothing is written where nothing is to be
-pub wrote-none : (o : List ℕ) (at : ℕ) → Wrote o at [] o at
-unfolding puts
-wrote-none o at = record { is = refl }
-
-module _ (o : List ℕ) (at x : ℕ) where
-  pub wrote-one : at < length o → Wrote o at (x ∷ []) (set o at x) (at + 1)
-  unfolding puts put
-  wrote-one h = record { is = rw (lt-ltb at (length o) h, put, add-one) }
-
-  pub wrote-full : length o ≤ at → Wrote o at (x ∷ []) o at
-  unfolding puts put
-  wrote-full h = record { is = rw (le-ltb at (length o) h, put) }
-
-pub writing-start : (o : List ℕ) (at : ℕ) (whole : List ℕ) → Writing o at whole o at whole
-writing-start o at whole = record { is = refl }
-
-module _ {o whole o′ rest : List ℕ} {at to : ℕ} (w : Writing o at whole o′ to rest) where
-  pub writing-long : length o′ ≡ length o
-  writing-long = sym (puts-long (output o′ to) rest) ∙ ap (λ (s : Output). length (s .buffer)) (w .is) ∙ puts-long (output o at) whole
-
-  -- `xs` comes next
-  pub writing-more : {xs ys o″ : List ℕ} {to′ : ℕ} → Wrote o′ to xs o″ to′ → Splits rest xs ys → Writing o at whole o″ to′ ys
-  writing-more {xs} {ys} v e = record {
-    is = ap (λ (s : Output). puts s ys) (v .is) ∙ sym (puts-append (output o′ to) xs ys) ∙ ap (puts (output o′ to)) (sym (e .is)) ∙ w .is;
-  }
-
-  pub writing-all : rest ≡ [] → Wrote o at whole o′ to
-  unfolding puts
-  writing-all e = record { is = sym (ap (puts (output o′ to)) e) ∙ w .is }
-
--- the same number, again and again
-pub replicate-more : (n x : ℕ) → 0 < n → Splits (replicate n x) (x ∷ []) (replicate (n - 1) x)
-replicate-more zero x h = absurd (omega arith)
-replicate-more (suc n) x h = let e : suc n - 1 ≡ n = omega arith in record { is = rw e }
-
-pub replicate-none : (n x : ℕ) → n ≤ 0 → replicate n x ≡ []
-replicate-none zero x h = refl
-replicate-none (suc n) x h = absurd (omega arith)
-
--- a list, element by element
-pub drop-more : (xs : List ℕ) (i : ℕ) → i < length xs → Splits (drop i xs) (getD xs i 0 ∷ []) (drop (i + 1) xs)
-drop-more xs i h = record { is = drop-cons xs i 0 h ∙ rw add-one }
-
-pub drop-none : (xs : List ℕ) (i : ℕ) → length xs ≤ i → drop i xs ≡ []
-drop-none xs i h = drop-of-length-le xs h

@@ -8,7 +8,8 @@ use lib.ListN.{length, getD, drop, length-drop, List·getD-eq-default}
 use lib.Seq.{append-snoc, drop-drop, getD-drop}
 use Rattle.orm.specs.Text.{separator, decimal, valuesText}
 use Rattle.reading.specs.Decimal.{decimal-small, decimal-large}
-use Rattle.buffer.specs.Written.{Wrote, wrote-then, wrote-as, Writing, writing-start, Splits}
+use Rattle.buffer.specs.Written.{Wrote, Writing, Splits}
+use Rattle.buffer.specs.Laws.{wrote-then, wrote-as, writing-start}
 use Rattle.numerals.specs.Lines.{numbersFrom, keyed, keyedLines}
 
 -- ---- digits

@@ -21,6 +21,6 @@ keyedLines k n (suc count) s = keyed k (numbersFrom s 0 n) ++ keyedLines k n cou
 -- Numbers that a loop over lines starts from, small enough that no position overflows: the first line's position, the numbers of a line, how
 -- many lines
 pub record Bounded (p n count : ℕ) : Type 0 where
-  pub at : p ≤ 1000000000
-  pub few : n ≤ 6
-  pub lines : count ≤ 1000000000
+  pub at : p ≤ 1000000000000000000
+  pub few : n ≤ 1000000
+  pub lines : count ≤ 4294967295

@@ -42,8 +42,9 @@ pub fn push_value(out: &mut [u8], at: usize, n: usize, more: usize) -> usize
 }
 
 // The number at i behind the position p; 0 past the end.
-fn item(xs: &[u32], p: usize, i: usize) -> usize
+pub fn item(xs: &[u32], p: usize, i: usize) -> usize
     ensures { λ r. ⌜ r ≡ getD (drop p (now (xs .entry))) i 0 ⌝ }
+    ensures { λ r. ⌜ r ≤ 4294967295 ⌝ }
 {
     if xs.len() <= p {
         return 0;
@@ -56,6 +57,7 @@ fn item(xs: &[u32], p: usize, i: usize) -> usize
 
 fn wide(x: u32) -> usize
     ensures { λ r. ⌜ r ≡ x ⌝ }
+    ensures { λ r. ⌜ r ≤ 4294967295 ⌝ }
 {
     x as usize
 }

@@ -2,7 +2,8 @@
 -- Assumes nothing.
 use Prim.Native.Nat.{_+_, _*_, _≤_}
 use lib.ListN.{drop}
-use Rattle.buffer.specs.Written.{Writing, writing-start, writing-more, writing-all, writing-long}
+use Rattle.buffer.specs.Written.{Writing}
+use Rattle.buffer.specs.Laws.{writing-start, writing-more, writing-all, writing-long}
 use Rattle.numerals.specs.Lines.{keyedLines}
 use Rattle.numerals.proofs.Writing.{lines-more, lines-none}
 use borrow.Author.Needs.{needs}
@@ -10,7 +11,7 @@ use Rattle.numerals.proofs.push_lines.Statement.{statement}
 use Rattle.numerals.proofs.push_lines.Tie as tie
 
 abbrev Inv-loop : tie.InvT-loop
-Inv-loop out₀ at key xs p n count left₀ q₀ to₀ out left q to = (q + 6 * left ≤ 7000000000) × Writing out₀ at
+Inv-loop out₀ at key xs p n count left₀ q₀ to₀ out left q to = (q + 1000000 * left ≤ 1100000000000000000) × Writing out₀ at
     (keyedLines key n count (drop p xs)) out to (keyedLines key n left (drop q xs))
 
 abbrev μ-loop : tie.MeasureT-loop

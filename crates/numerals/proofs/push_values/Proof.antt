@@ -3,7 +3,8 @@
 use Prim.Native.Nat.{_-_, _≤_}
 use lib.ListN.{drop}
 use Rattle.orm.specs.Text.{valuesText}
-use Rattle.buffer.specs.Written.{Writing, writing-more, writing-all, writing-long}
+use Rattle.buffer.specs.Written.{Writing}
+use Rattle.buffer.specs.Laws.{writing-more, writing-all, writing-long}
 use Rattle.numerals.specs.Lines.{numbersFrom}
 use Rattle.numerals.proofs.Writing.{values-start, values-more, values-none}
 use borrow.Author.Needs.{needs}

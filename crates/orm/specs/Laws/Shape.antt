@@ -31,7 +31,7 @@ block-cells w n k v rest l =
     let e : exactly (v ++ rest) (k * w) ≡ cut v rest = subst (λ (m : ℕ). exactly (v ++ rest) m ≡ cut v rest) l (exactly-append v rest) in
     rw (e, block)
 
-flatten-length : (w : ℕ) (os : List (List ℕ)) → Wide w os → length (flatten os) ≡ length os * w
+pub flatten-length : (w : ℕ) (os : List (List ℕ)) → Wide w os → length (flatten os) ≡ length os * w
 unfolding flatten
 flatten-length w [] h = omega arith
 flatten-length w (r ∷ os) h =

@@ -2,7 +2,8 @@
 -- Assumes nothing.
 use Prim.Native.Nat.{_-_, _≤_}
 use lib.ListN.{length, drop}
-use Rattle.buffer.specs.Written.{Writing, writing-start, writing-more, writing-all, writing-long, drop-more, drop-none}
+use Rattle.buffer.specs.Written.{Writing}
+use Rattle.buffer.specs.Laws.{writing-start, writing-more, writing-all, writing-long, drop-more, drop-none}
 use borrow.Author.Needs.{needs}
 use Rattle.buffer.proofs.bytes.append.Statement.{statement}
 use Rattle.buffer.proofs.bytes.append.Tie as tie

@@ -1,6 +1,6 @@
 -- `buffer::bytes::push` meets its contract. In a buffer that is full nothing is written.
 -- Assumes nothing.
-use Rattle.buffer.specs.Written.{wrote-one, wrote-full}
+use Rattle.buffer.specs.Laws.{wrote-one, wrote-full}
 use borrow.Author.Needs.{needs}
 use Rattle.buffer.proofs.bytes.push.Statement.{statement}
 use Rattle.buffer.proofs.bytes.push.Tie as tie

@@ -1,0 +1,90 @@
+-- How the check ends: the end of the rounds as an answer, and the buffer that it leaves.
+use Prim.Native.Nat.{ℕ, _+_, _≤_, _<_}
+use native.Mathlib.Nat.{lt-of-not-le}
+use native.Mathlib.Numerals.{add-one}
+use native.Mathlib.Omega.{arith}
+use mathlib.Core.Path.{_≡_, refl, ap}
+use mathlib.Core.List.{List}
+use lib.ListN.{length, getD, List·getD-eq-default}
+use mir.Syntax.{w64}
+use mir.Val.{Fits}
+use borrow.Author.Tests.{lt-ltb, le-ltb}
+use Rattle.fixpoint.specs.Limits.{Limit, Verdict, unsatisfiable, fixpoint, run, upperAfter}
+use Rattle.fixpoint.specs.Laws.{run-laws}
+use Rattle.orm.specs.Outcome.{Outcome, refused, accepted, _>>=_, fitted, bufferAfter, Sized, written}
+use Rattle.rounds.specs.declared.Outcome.{Outcome as Ended}
+use Rattle.rounds.specs.declared.Outcome.the-variants.{Refused, Unsatisfiable, Fixpoint}
+use Rattle.rounds.specs.Answer.{outcomeOf, upperOf, Bounds}
+use Rattle.buffer.specs.Written.{Wrote}
+use Rattle.buffer.specs.Laws.{wrote-whole}
+use Rattle.bounds.specs.Answer.{ended, Answered}
+use Rattle.bounds.specs.declared.CheckAnswer.{CheckAnswer}
+use Rattle.bounds.specs.declared.CheckAnswer.the-variants.{Unsatisfiable as Emptied, TooShort, Accepted}
+
+-- ---- the sizes in the buffer
+
+module _ (rounds : ℕ) (result sizes : List ℕ) where
+  rest : Outcome (List ℕ) → Outcome Sized
+  rest o = o >>= λ w. accepted (record { rounds = rounds; result = w })
+
+  too-short : length sizes < length result → ended (fixpoint rounds result) (length sizes) ≡ refused 8 (length result) 0
+  unfolding ended fitted rest
+  too-short h =
+      let e : fitted (length sizes) result ≡ refused 8 (length result) 0 = rw (lt-ltb (length sizes) (length result) h, fitted) in
+      ap rest e
+
+  long-enough : length result ≤ length sizes
+      → ended (fixpoint rounds result) (length sizes) ≡ accepted (record { rounds = rounds; result = result })
+  unfolding ended fitted rest
+  long-enough h =
+      let e : fitted (length sizes) result ≡ accepted result = rw (le-ltb (length sizes) (length result) h, fitted) in
+      ap rest e
+
+  pub fit-short : length sizes < length result
+      → Answered (ended (fixpoint rounds result) (length sizes)) (TooShort (length result)) sizes sizes
+  unfolding written bufferAfter
+  fit-short h = rw (too-short h) (record { handed = refl; buffer = refl })
+
+  pub fit-whole : {o : List ℕ} {to : ℕ} → length result ≤ length sizes → Wrote sizes 0 result o to
+      → Answered (ended (fixpoint rounds result) (length sizes)) (Accepted (length result) rounds) sizes o
+  unfolding written bufferAfter
+  fit-whole h w = rw (long-enough h) (record { handed = refl; buffer = wrote-whole w h })
+
+-- ---- the outcome of the rounds
+
+unsatisfiable-of : (v : Verdict) {r : Ended} {s n : ℕ} → r ≡ Unsatisfiable s n → r ≡ outcomeOf v → v ≡ unsatisfiable s n
+unsatisfiable-of (unsatisfiable s m) p e = cc
+unsatisfiable-of (fixpoint m c) p e = let z : _≡_ {A = ℕ} 0 1 = cc in absurd (omega arith)
+
+fixpoint-of : (v : Verdict) {r : Ended} {n : ℕ} {u : List ℕ} (u₀ : List ℕ) → r ≡ Fixpoint n → r ≡ outcomeOf v → u ≡ upperOf v u₀
+    → v ≡ fixpoint n u
+fixpoint-of (unsatisfiable s m) u₀ p e eu = let z : _≡_ {A = ℕ} 0 1 = cc in absurd (omega arith)
+fixpoint-of (fixpoint m c) u₀ p e eu = cc
+
+never : (v : Verdict) {r : Ended} → r ≡ Refused → r ≡ outcomeOf v → ⊥
+never (unsatisfiable s m) p e = let z : _≡_ {A = ℕ} 0 1 = cc in omega arith
+never (fixpoint m c) p e = let z : _≡_ {A = ℕ} 0 1 = cc in omega arith
+
+in-range : (xs : List ℕ) (i : ℕ) → 0 < getD xs i 0 → i < length xs
+in-range xs i h = lt-of-not-le λ k. omega (arith, List·getD-eq-default xs 0 {n = i} k)
+
+-- the set of an unsatisfiable end is one of the sets
+pub set-fits : (ls : List Limit) (low up : List ℕ) {r : Ended} {s n : ℕ} → Bounds low up → r ≡ Unsatisfiable s n
+    → r ≡ outcomeOf (run ls low up)
+    → Fits w64 (s + 1)
+set-fits ls low up {s = s} {n = n} b p e =
+    let below : getD (upperAfter ls up n) s 0 < getD low s 0 =
+    run-laws ls low up (b .paired) .at-unsatisfiable (unsatisfiable-of (run ls low up) p e) .first .below in
+    record { fits = omega (arith, in-range low s (omega arith), b .paired, b .few) }
+
+module _ (v : Verdict) {r : Ended} (e : r ≡ outcomeOf v) where
+  pub answer-unsatisfiable : {s n : ℕ} (b : List ℕ) → r ≡ Unsatisfiable s n → Answered (ended v (length b)) (Emptied (s + 1) n) b b
+  unfolding ended written bufferAfter
+  answer-unsatisfiable {s} {n} b p = rw (unsatisfiable-of v p e) (record { handed = rw add-one; buffer = refl })
+
+  pub answer-fixpoint : {n : ℕ} (b : List ℕ) {u b′ : List ℕ} {a : CheckAnswer} (u₀ : List ℕ) → r ≡ Fixpoint n → u ≡ upperOf v u₀
+      → Answered (ended (fixpoint n u) (length b)) a b b′ → Answered (ended v (length b)) a b b′
+  answer-fixpoint b u₀ p eu w = rw (fixpoint-of v u₀ p e eu) w
+
+  pub answer-refused : (b b′ : List ℕ) (a : CheckAnswer) → r ≡ Refused → Answered (ended v (length b)) a b b′
+  answer-refused b b′ a p = absurd (never v p e)

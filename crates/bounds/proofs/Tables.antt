@@ -1,0 +1,126 @@
+-- The check of a table: what the reader says of it, and what a valid one leads to.
+use Prim.Native.Nat.{ℕ, suc, _≤_}
+use native.Mathlib.Omega.{arith}
+use mathlib.Core.Path.{_≡_, refl, sym, ap, _∙_}
+use mathlib.Core.List.{List}
+use lib.ListN.{length, take}
+use lib.Seq.{length-take-le}
+use Rattle.orm.specs.Diagram.{Diagram}
+use Rattle.orm.specs.Text.{tableLine}
+use Rattle.orm.specs.Sets.{lower, upper, limits, verdict}
+use Rattle.orm.specs.Outcome.{Outcome, refused, accepted, _>>=_, fitted, bufferAfter, Sized, written, handedBack}
+use Rattle.orm.specs.Calls.{diagramIn, sizesOf, settledInto, checkCall}
+use Rattle.fixpoint.specs.Limits.{Verdict, unsatisfiable, fixpoint, run}
+use Rattle.grammar.specs.Fault.{numberOf}
+use Rattle.reader.specs.Answer.{formOf, totalled}
+use Rattle.grammar.specs.declared.Fault.{Fault}
+use Rattle.reader.specs.declared.FormAnswer.{FormAnswer}
+use Rattle.reader.specs.declared.FormAnswer.the-variants as forms
+use Rattle.rounds.specs.Answer.{Bounds}
+use Rattle.lowering.specs.Encoding.{encode, decode}
+use Rattle.buffer.specs.Written.{Wrote}
+use Rattle.buffer.specs.Laws.{wrote-front, wrote-within}
+use Rattle.table.specs.Positions.{diagramOf}
+use Rattle.table.specs.Valid.{Valid}
+use Rattle.table.specs.Laws.Valid.{accepted-valid}
+use Rattle.limits.specs.Laws.Decoded.{limits-decode}
+use Rattle.limits.specs.Laws.Room.{start-bounds, limits-fit, lower-fits, upper-fits}
+use Rattle.bounds.specs.Answer.{checkOf, ended, Answered, Scratch}
+use Rattle.bounds.specs.declared.CheckAnswer.{CheckAnswer}
+use Rattle.bounds.specs.declared.CheckAnswer.the-variants.{Refused}
+
+-- ---- what the reader says
+
+refused-is : (o : Outcome Diagram) {r : FormAnswer} {f : Fault} {line : ℕ} → r ≡ forms.Refused f line → formOf r ≡ totalled o
+    → o ≡ refused (numberOf f) line 0
+refused-is (refused c place round) {r} {f} {line} p e = let q : formOf r ≡ refused (numberOf f) line 0 = ap formOf p in cc
+refused-is (accepted d) {r} {f} {line} p e =
+    let q : formOf r ≡ refused (numberOf f) line 0 = ap formOf p in
+    let z : _≡_ {A = ℕ} 0 1 = cc in
+    absurd (omega arith)
+
+module _ (t b : List ℕ) {r : FormAnswer} {f : Fault} {line : ℕ} (p : r ≡ forms.Refused f line)
+    (e : formOf r ≡ totalled (diagramIn tableLine t)) where
+  call-refused : checkCall t (length b) ≡ refused (numberOf f) line 0
+  unfolding checkCall
+  call-refused = ap (λ (o : Outcome Diagram). o >>= λ d. settledInto (λ c. c) d (length b)) (refused-is (diagramIn tableLine t) p e)
+
+  pub table-refused : checkOf (Refused f line) ≡ handedBack (checkCall t (length b))
+  table-refused = ap handedBack (sym call-refused)
+
+  pub table-kept : b ≡ bufferAfter (written (checkCall t (length b))) b
+  unfolding written bufferAfter
+  table-kept = ap (λ (o : Outcome Sized). bufferAfter (written o) b) (sym call-refused)
+
+pub table-valid : (t : List ℕ) {r : FormAnswer} {a b c d : ℕ} → r ≡ forms.Accepted a b c d → formOf r ≡ totalled (diagramIn tableLine t)
+    → Valid t
+table-valid t {r} {a} {b} {c} {d} p e = go (diagramIn tableLine t) refl e
+  where
+    go : (o : Outcome Diagram) → diagramIn tableLine t ≡ o → formOf r ≡ totalled o → Valid t
+    go (refused n place round) q h =
+        let s : formOf r ≡ accepted (record { types = a; preds = b; roles = c; groups = d }) = ap formOf p in
+        let z : _≡_ {A = ℕ} 0 1 = cc in
+        absurd (omega arith)
+    go (accepted x) q h = accepted-valid t x q
+
+-- ---- a valid table
+
+pub front-count : (l : List ℕ) (m : ℕ) → m ≤ length l → m ≡ length (take m l)
+front-count l m h = sym (length-take-le m l h)
+
+-- the steps behind the reading, and behind the verdict
+abbrev fittedIn : ℕ → Outcome Sized → Outcome Sized
+fittedIn space o = o >>= λ s. fitted space (s .result) >>= λ w. accepted (record { rounds = s .rounds; result = w })
+
+settled-is : (d : Diagram) (space : ℕ) → settledInto (λ c. c) d space ≡ ended (verdict d) space
+unfolding settledInto sizesOf ended
+settled-is d space = go (verdict d)
+  where
+    go : (v : Verdict)
+        → fittedIn space (elim v as (λ _. Outcome Sized) [
+          | unsatisfiable s round ↦ refused 7 (suc s) round
+          | fixpoint n c ↦ accepted (record {
+            rounds =
+                n;
+            result = c;
+          })
+        ])
+        ≡ ended v space
+    go (unsatisfiable s n) = refl
+    go (fixpoint n c) = refl
+
+module _ {t : List ℕ} (v : Valid t) where
+  check-is : (space : ℕ) → checkCall t space ≡ ended (verdict (diagramOf t)) space
+  unfolding checkCall
+  check-is space =
+      ap (λ (o : Outcome Diagram). o >>= λ d. settledInto (λ c. c) d space) (v .reads) ∙ settled-is (diagramOf t) space
+
+  -- what was written into the scratch `l`, `a` and `b`
+  module _ {l a b : List ℕ} (scratch : Scratch l a b) where
+    limits-room : length (encode (limits (diagramOf t))) ≤ length l
+    limits-room = omega (arith, limits-fit (diagramOf t) (v .formed), scratch .limits)
+
+    lower-room : length (lower (diagramOf t)) ≤ length a
+    lower-room = omega (arith, lower-fits (diagramOf t) (v .formed), scratch .lower)
+
+    upper-room : length (upper (diagramOf t)) ≤ length b
+    upper-room = omega (arith, upper-fits (diagramOf t) (v .formed), scratch .upper)
+
+    pub limits-within : {l′ : List ℕ} {m : ℕ} → Wrote l 0 (encode (limits (diagramOf t))) l′ m → m ≤ length l′
+    limits-within w = wrote-within w limits-room
+
+    pub lower-within : {a′ : List ℕ} {n : ℕ} → Wrote a 0 (lower (diagramOf t)) a′ n → n ≤ length a′
+    lower-within w = wrote-within w lower-room
+
+    pub upper-within : {b′ : List ℕ} {k : ℕ} → Wrote b 0 (upper (diagramOf t)) b′ k → k ≤ length b′
+    upper-within w = wrote-within w upper-room
+
+    module _ {a′ b′ : List ℕ} {n k : ℕ} (wa : Wrote a 0 (lower (diagramOf t)) a′ n) (wb : Wrote b 0 (upper (diagramOf t)) b′ k) where
+      pub check-bounds : Bounds (take n a′) (take k b′)
+      check-bounds = rw (wrote-front wa lower-room, wrote-front wb upper-room) (start-bounds (diagramOf t) (v .formed))
+
+      pub checked : {l′ s s′ : List ℕ} {m : ℕ} {r : CheckAnswer} → Wrote l 0 (encode (limits (diagramOf t))) l′ m
+          → Answered (ended (run (decode (take m l′)) (take n a′) (take k b′)) (length s)) r s s′ → Answered (checkCall t (length s)) r s s′
+      unfolding verdict
+      checked {s = s} wl h =
+          rw (check-is (length s)) (rw (limits-decode (diagramOf t) (v .formed) (omega (arith, scratch .limits)) wl, wrote-front wa lower-room, wrote-front wb upper-room) at h)

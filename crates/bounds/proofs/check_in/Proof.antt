@@ -1,0 +1,27 @@
+-- `bounds::check_in` meets its contract. The fronts of the scratch hold the diagram's limits and bounds.
+-- Assumes nothing.
+use Rattle.table.specs.Laws.Valid.{valid-walkable}
+use Rattle.bounds.proofs.Tables.{front-count, limits-within, lower-within, upper-within, check-bounds, checked}
+use borrow.Author.Needs.{needs}
+use Rattle.bounds.proofs.check_in.Statement.{statement}
+use Rattle.bounds.proofs.check_in.Tie as tie
+
+pub check-in-spec : {M : Type 1} → statement M
+check-in-spec =
+    tie.close
+    (tie.spec
+    (λ c κs. search (needs, valid-walkable))
+    (λ c κs. search (needs, valid-walkable))
+    (λ c κs. search (needs, valid-walkable))
+    (λ c. search (needs, limits-within))
+    (λ c. search (needs, front-count, limits-within))
+    (λ c. search (needs, lower-within))
+    (λ c. search (needs, front-count, lower-within))
+    (λ c. search (needs, upper-within))
+    (λ c. search (needs, front-count, upper-within))
+    (λ c κs. search (needs, check-bounds))
+    (λ c. search needs)
+    (λ c. search needs)
+    (λ c. search needs)
+    (λ c. search needs)
+    (λ c. search (needs, checked)))

@@ -1,0 +1,161 @@
+-- Loops over operands, limits, indices and sets: what is left decides, or writes, or lowers, as the whole does.
+use Prim.Native.Nat.{ℕ, zero, suc, _+_, _-_, _≤_, _<_, min}
+use native.Mathlib.Numerals.{add-one}
+use native.Mathlib.Omega.{arith}
+use mathlib.Core.Path.{_≡_, refl, sym, ap, _∙_, subst⁻¹}
+use mathlib.Core.Bool.{Bool, true, false, _||_}
+use mathlib.Core.List.{List, [], _∷_, _++_}
+use lib.Dec.{ltb}
+use lib.ListN.{length, getD, take, drop, drop-of-length-le}
+use lib.Seq.{drop-cons}
+use borrow.Author.Tests.{ltb-false, lt-ltb, le-ltb, eq-eqb, ne-eqb}
+use Rattle.fixpoint.specs.Limits.{Limit, lowered, loweredBy}
+use Rattle.buffer.specs.Written.{Wrote, Writing, Splits}
+use Rattle.buffer.specs.Laws.{wrote-none, writing-start, writing-more, writing-all, writing-long}
+use Rattle.lowering.specs.Encoding.{limitAt}
+use Rattle.lowering.specs.Laws.Lowered.{part-end, length-lowered}
+use Rattle.dependents.specs.Dependents.{operandsAt, has, reads, when, dependentsFrom, dependents, limitsAt, dependingIf}
+use Rattle.dependents.specs.Dependents.{Row, Within}
+
+-- ---- operands
+
+module _ (ss : List ℕ) (s i : ℕ) where
+  abbrev pub Has : Type 0
+  Has = has (drop i ss) s ≡ has ss s
+
+  pub has-here : {o : ℕ} → Has → i < length ss → o ≡ getD ss i 0 → o ≡ s → true ≡ has ss s
+  unfolding has
+  has-here w h e q = rw (drop-cons ss i 0 h, eq-eqb (getD ss i 0) s (sym e ∙ q), has) at w
+
+  pub has-none : Has → length ss ≤ i → false ≡ has ss s
+  unfolding has
+  has-none w h = rw (drop-of-length-le ss h) at w
+
+pub has-more : (ss : List ℕ) (s i : ℕ) {o : ℕ} → Has ss s i → i < length ss → o ≡ getD ss i 0 → (o ≡ s → ⊥) → Has ss s (i + 1)
+unfolding has
+has-more ss s i w h e n = rw add-one (rw (drop-cons ss i 0 h, ne-eqb (getD ss i 0) s (λ q. n (e ∙ q)), has) at w)
+
+module _ (ss : List ℕ) (s : ℕ) {f o : ℕ} (ef : f ≡ getD ss 0 0) (eo : o ≡ f) where
+  pub reads-first : o ≡ s → true ≡ reads ss s
+  unfolding reads
+  reads-first q = rw (eq-eqb (getD ss 0 0) s (sym ef ∙ sym eo ∙ q))
+
+  pub reads-rest : {b : Bool} → (o ≡ s → ⊥) → b ≡ has ss s → b ≡ reads ss s
+  unfolding reads
+  reads-rest n e = rw (ne-eqb (getD ss 0 0) s (λ q. n (eo ∙ ef ∙ q))) e
+
+pub reads-part : (xs : List ℕ) (at s : ℕ) {e : ℕ} {b : Bool} → at + 4 ≤ length xs → e ≡ min (at + 4 + getD xs (at + 3) 0) (length xs)
+    → b ≡ reads (take (e - (at + 4)) (drop (at + 4) xs)) s → b ≡ reads (operandsAt xs at) s
+reads-part xs at s h q eb = eb ∙ ap (λ (ss : List ℕ). reads ss s) (part-end xs (at + 4) (getD xs (at + 3) 0) h q)
+
+-- ---- the limits that depend on a set
+
+pub when-true : {o o′ : List ℕ} {at to x : ℕ} {b : Bool} → b ≡ true → Wrote o at (x ∷ []) o′ to → Wrote o at (when b x) o′ to
+when-true e w = rw e w
+
+pub when-false : (o : List ℕ) (at x : ℕ) {b : Bool} → b ≡ false → Wrote o at (when b x) o at
+when-false o at x e = rw e (wrote-none o at)
+
+-- Those from the index `p` on are left to write
+pub record Pushing (xs : List ℕ) (s : ℕ) (o : List ℕ) (at : ℕ) (o′ : List ℕ) (to p : ℕ) : Type 0 where
+  pub most : ℕ
+  pub enough : length xs ≤ p + most
+  pub writing : Writing o at (dependents xs s) o′ to (dependentsFrom s most xs p)
+
+module _ (xs : List ℕ) (s : ℕ) (o : List ℕ) (at : ℕ) where
+  pub pushing-start : Pushing xs s o at o at 0
+  unfolding dependents
+  pushing-start = record { most = length xs; enough = omega arith; writing = writing-start o at (dependentsFrom s (length xs) xs 0) }
+
+  module _ {o′ : List ℕ} {to p : ℕ} (w : Pushing xs s o at o′ to p) where
+    pub pushing-long : length o′ ≡ length o
+    pushing-long = writing-long (w .writing)
+
+    pub pushing-more : {o″ : List ℕ} {to′ n : ℕ} {b : Bool} → p + 4 ≤ length xs → b ≡ reads (operandsAt xs p) s
+        → Wrote o′ to (when b p) o″ to′
+        → n ≡ getD xs (p + 3) 0 → Pushing xs s o at o″ to′ (p + 4 + n)
+    unfolding dependentsFrom
+    pushing-more {o″} {to′} {n} {b} h eb v en = go (w .most) (w .enough) (w .writing)
+      where
+        go : (m : ℕ) → length xs ≤ p + m → Writing o at (dependents xs s) o′ to (dependentsFrom s m xs p)
+            → Pushing xs s o at o″ to′ (p + 4 + n)
+        go zero k r = absurd (omega arith)
+        go (suc m) k r =
+            let split : Splits (dependentsFrom s (suc m) xs p) (when b p) (dependentsFrom s m xs (p + 4 + n)) =
+            record { is = rw (le-ltb (length xs) (p + 4) h, dependentsFrom, en, eb) } in
+            record { most = m; enough = omega arith; writing = writing-more r v split }
+
+    pub pushing-none : length xs < p + 4 → Wrote o at (dependents xs s) o′ to
+    unfolding dependentsFrom
+    pushing-none h = writing-all (w .writing) (go (w .most))
+      where
+        go : (m : ℕ) → dependentsFrom s m xs p ≡ []
+        go zero = refl
+        go (suc m) = rw (lt-ltb (length xs) (p + 4) h, dependentsFrom)
+
+-- ---- limits put to use
+
+module _ (xs ps old new₀ : List ℕ) where
+  -- what is left from the index `i` on leads to the whole
+  abbrev pub Using : ℕ → List ℕ → Type 0
+  Using i new = loweredBy old (limitsAt xs (drop i ps)) new ≡ loweredBy old (limitsAt xs ps) new₀
+
+  pub using-more : (i : ℕ) (new : List ℕ) {new′ : List ℕ} → Using i new → i < length ps
+      → new′ ≡ lowered old (limitAt xs (getD ps i 0)) new → Using (i + 1) new′
+  unfolding loweredBy
+  using-more i new w h e = rw (add-one, e) (rw (drop-cons ps i 0 h) at w)
+
+  pub using-all : (i : ℕ) (new : List ℕ) → Using i new → length ps ≤ i → new ≡ loweredBy old (limitsAt xs ps) new₀
+  unfolding loweredBy
+  using-all i new w h = rw (drop-of-length-le ps h) at w
+
+pub within-here : (xs ps : List ℕ) (i : ℕ) → Within xs ps → i < length ps → getD ps i 0 + 4 ≤ length xs
+within-here xs ps i w h = w .at i h
+
+pub long-step : (old new y : List ℕ) (l : Limit) {x : List ℕ} → x ≡ lowered old l new → length new ≡ length y → length x ≡ length y
+long-step old new y l e h = ap length e ∙ length-lowered old new l ∙ h
+
+within-cons : (xs : List ℕ) (b : Bool) (p : ℕ) (ps : List ℕ) → p + 4 ≤ length xs → Within xs ps → Within xs (when b p ++ ps)
+within-cons xs true p ps h w = record { at = go }
+  where
+    go : (k : ℕ) → k < length (p ∷ ps) → getD (p ∷ ps) k 0 + 4 ≤ length xs
+    go zero l = h
+    go (suc k) l = w .at k (omega arith)
+within-cons xs false p ps h w = w
+
+within-from : (xs : List ℕ) (s m at : ℕ) → Within xs (dependentsFrom s m xs at)
+unfolding dependentsFrom
+within-from xs s zero at = record { at = λ k h. absurd (omega arith) }
+within-from xs s (suc m) at = go (ltb (length xs) (at + 4)) refl (within-from xs s m (at + 4 + getD xs (at + 3) 0))
+  where
+    rest : List ℕ
+    rest = dependentsFrom s m xs (at + 4 + getD xs (at + 3) 0)
+
+    go : (b : Bool) → ltb (length xs) (at + 4) ≡ b → Within xs rest
+        → Within xs (elim b as (λ _. List ℕ) [ true ↦ [] | false ↦ when (reads (operandsAt xs at) s) at ++ rest ])
+    go true t w = record { at = λ k h. absurd (omega arith) }
+    go false t w = within-cons xs (reads (operandsAt xs at) s) at rest (ltb-false (length xs) (at + 4) t) w
+
+module _ (xs starts entries : List ℕ) (s : ℕ) (r : Row xs starts entries s) where
+  pub row-ordered : getD starts s 0 ≤ getD starts (s + 1) 0
+  row-ordered = r .ordered
+
+  pub row-within : getD starts (s + 1) 0 ≤ length entries
+  row-within = r .within
+
+  pub row-entries : Within xs (take (getD starts (s + 1) 0 - getD starts s 0) (drop (getD starts s 0) entries))
+  unfolding dependents
+  row-entries = subst⁻¹ (Within xs) (r .is) (within-from xs s (length xs) 0)
+
+  pub row-used : (old new : List ℕ) {new′ : List ℕ}
+      → new′ ≡ loweredBy old (limitsAt xs (take (getD starts (s + 1) 0 - getD starts s 0) (drop (getD starts s 0) entries))) new
+      → new′ ≡ loweredBy old (limitsAt xs (dependents xs s)) new
+  row-used old new e = e ∙ ap (λ (ps : List ℕ). loweredBy old (limitsAt xs ps) new) (r .is)
+
+pub used-if : (xs old new : List ℕ) (s : ℕ) {b : Bool} {new′ : List ℕ} → b ≡ true → new′ ≡ loweredBy old (limitsAt xs (dependents xs s)) new
+    → new′ ≡ loweredBy old (dependingIf b xs s) new
+used-if xs old new s e h = rw e h
+
+pub unused-if : (xs old new : List ℕ) (s : ℕ) {b : Bool} → b ≡ false → new ≡ loweredBy old (dependingIf b xs s) new
+unfolding loweredBy
+unused-if xs old new s e = rw e

@@ -1,0 +1,3 @@
+-- The laws of limits that depend on a set: the others hold after a round.
+pub mod Values
+pub mod Changed

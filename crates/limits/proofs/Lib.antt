@@ -1,0 +1,5 @@
+pub mod Columns
+pub mod Limited
+pub mod Selects
+pub mod Starts
+pub mod Walked

@@ -1,0 +1,198 @@
+-- The limits of all roles, groups, predicates and types, written in the order of `limits`: what a turn of each loop writes and what it leaves.
+use Prim.Native.Nat.{ℕ, suc, _+_, _*_, _-_, _≤_, _<_}
+use native.Mathlib.Numerals.{add-one}
+use native.Mathlib.Omega.{arith}
+use mathlib.Core.Path.{_≡_, refl, sym, ap, ap₂, _∙_}
+use mathlib.Core.Bool.{Bool, not}
+use mathlib.Core.List.{List, [], _∷_, _++_, flatMap, flatten, append-nil}
+use lib.Dec.{eqb}
+use lib.ListN.{length, getD, drop, length-append}
+use lib.Seq.{drop-drop}
+use Rattle.orm.specs.Diagram.{Role, Predicate, Diagram, isRoot, isIndependent, allRoles}
+use Rattle.orm.specs.Form.{typeOf, roleOf, groupOf}
+use Rattle.counting.specs.Lists.{mapFrom}
+use Rattle.fixpoint.specs.Limits.{Limit}
+use Rattle.orm.specs.Sets.{Placed, firstRole, placed, select, rolesOfType, atMost, onlyIf, limitsOfRole, limitsOfGroup, limitOfRows}
+use Rattle.orm.specs.Sets.{limitsOfPred, limitsOfType, limits}
+use Rattle.lowering.specs.Encoding.{encodeExpr, encode}
+use Rattle.buffer.specs.Written.{Wrote, Writing, Splits}
+use Rattle.buffer.specs.Laws.{wrote-then, wrote-as, writing-start}
+use Rattle.table.specs.Positions.{each, typesIn, rolesIn, groupsIn, predsIn, predLength, typeCount, predCount, firstPredAt, diagramOf}
+use Rattle.table.specs.Laws.Walks.{each-more, each-none, each-length, preds-more, preds-none}
+use Rattle.table.specs.Cursors.{placedAt, placedLeft, firstCursor, nextCursor}
+use Rattle.table.specs.Laws.Cursors.{placed-start, placed-more, placed-none}
+use Rattle.table.specs.declared.Cursor.{Cursor}
+use Rattle.limits.specs.Selected.{has, limitOfPlayed}
+use Rattle.limits.proofs.Selects.{select-append, select-length}
+use Rattle.lowering.specs.Laws.Decoding.{encode-append}
+
+-- ---- the limits of each line, numbered from `i`
+
+abbrev pub items : {A : Type 0} → (ℕ → A → List Limit) → ℕ → List A → List ℕ
+items g i xs = encode (flatten (mapFrom g i xs))
+
+module _ {A : Type 0} (make : List ℕ → A) (k : ℕ) (g : ℕ → A → List Limit) (t : List ℕ) (q n i : ℕ) where
+  pub items-more : 0 < n
+      → Splits (items g i (each make k n (drop q t))) (encode (g i (make (drop q t))))
+      (items g (i + 1) (each make k (n - 1) (drop (q + k) t)))
+  unfolding mapFrom flatten
+  items-more h = record {
+    is =
+        ap (items g i) (each-more make k t q n h)
+        ∙ encode-append (g i (make (drop q t))) (flatten (mapFrom g (suc i) (each make k (n - 1) (drop (q + k) t)))) ∙ rw add-one;
+  }
+
+  pub items-none : n ≤ 0 → items g i (each make k n (drop q t)) ≡ []
+  unfolding mapFrom flatten encode
+  items-none h = ap (items g i) (each-none make k n (drop q t) h)
+
+module _ (t : List ℕ) (x : Placed) (q n i : ℕ) where
+  pub roles-more : 0 < n
+      → Splits (items (limitsOfRole x) i (rolesIn n (drop q t))) (encode (limitsOfRole x i (roleOf (drop q t))))
+      (items (limitsOfRole x) (i + 1) (rolesIn (n - 1) (drop (q + 3) t)))
+  roles-more = items-more roleOf 3 (limitsOfRole x) t q n i
+
+  pub groups-more : 0 < n
+      → Splits (items (limitsOfGroup x) i (groupsIn n (drop q t))) (encode (limitsOfGroup x i (groupOf (drop q t))))
+      (items (limitsOfGroup x) (i + 1) (groupsIn (n - 1) (drop (q + 2) t)))
+  groups-more = items-more groupOf 2 (limitsOfGroup x) t q n i
+
+module _ (t : List ℕ) (x : Cursor) (o : List ℕ) (at : ℕ) where
+  pub roles-start : {n : ℕ} → n ≡ getD (drop (x .at) t) 2 0
+      → Writing o at (items (limitsOfRole (placedAt t x)) (x .roles) (placedAt t x .predicate .roles)) o at
+      (items (limitsOfRole (placedAt t x)) (x .roles) (rolesIn n (drop (x .at + 4) t)))
+  unfolding placedAt
+  roles-start en =
+      rw (en, ← drop-drop 4 (x .at) t) (writing-start o at (items (limitsOfRole (placedAt t x)) (x .roles) (placedAt t x .predicate .roles)))
+
+  pub groups-start : {i r n : ℕ} → n ≡ getD (drop (x .at) t) 3 0 → r ≡ getD (drop (x .at) t) 2 0 → i ≡ r
+      → Writing o at (items (limitsOfGroup (placedAt t x)) 1 (placedAt t x .predicate .groups)) o at
+      (items (limitsOfGroup (placedAt t x)) 1 (groupsIn n (drop (x .at + (4 + 3 * i)) t)))
+  unfolding placedAt
+  groups-start en er ei =
+      rw (en, ei, er, ← drop-drop (4 + 3 * getD (drop (x .at) t) 2 0) (x .at) t) (writing-start o at (items (limitsOfGroup (placedAt t x)) 1 (placedAt t x .predicate .groups)))
+
+-- ---- predicates
+
+module _ (t : List ℕ) where
+  pub pred-is : (x : Cursor) {o o₁ o₂ o₃ : List ℕ} {at a b c : ℕ}
+      → Wrote o at (items (limitsOfRole (placedAt t x)) (x .roles) (placedAt t x .predicate .roles)) o₁ a
+      → Wrote o₁ a (items (limitsOfGroup (placedAt t x)) 1 (placedAt t x .predicate .groups)) o₂ b
+      → Wrote o₂ b (encode (limitOfRows (placedAt t x) ∷ [])) o₃ c → Wrote o at (encode (limitsOfPred (placedAt t x))) o₃ c
+  unfolding limitsOfPred placedAt
+  pred-is x w₁ w₂ w₃ =
+      let rs : List Limit = flatten (mapFrom (limitsOfRole (placedAt t x)) (x .roles) (placedAt t x .predicate .roles)) in
+      let gs : List Limit = flatten (mapFrom (limitsOfGroup (placedAt t x)) 1 (placedAt t x .predicate .groups)) in
+      wrote-as (wrote-then (wrote-then w₁ w₂) w₃) (sym (encode-append (rs ++ gs) (limitOfRows (placedAt t x) ∷ []) ∙ ap (λ (l : List ℕ). l ++ encode (limitOfRows (placedAt t x) ∷ [])) (encode-append rs gs)))
+
+  pub limits-start : (o : List ℕ) (at : ℕ) {x : Cursor} {n : ℕ} → x ≡ firstCursor t → n ≡ predCount t
+      → Writing o at (encode (flatMap limitsOfPred (placed (diagramOf t)))) o at (encode (flatMap limitsOfPred (placedLeft n t x)))
+  limits-start o at ex en = rw (placed-start t ex en) (writing-start o at (encode (flatMap limitsOfPred (placed (diagramOf t)))))
+
+  module _ (x : Cursor) (n : ℕ) where
+    pub limits-more : {y : Cursor} → 0 < n → y ≡ nextCursor t x
+        → Splits (encode (flatMap limitsOfPred (placedLeft n t x))) (encode (limitsOfPred (placedAt t x)))
+        (encode (flatMap limitsOfPred (placedLeft (n - 1) t y)))
+    unfolding flatMap
+    limits-more {y} h e = record {
+      is =
+          ap (λ (l : List Placed). encode (flatMap limitsOfPred l)) (placed-more t x n h e)
+          ∙ encode-append (limitsOfPred (placedAt t x)) (flatMap limitsOfPred (placedLeft (n - 1) t y));
+    }
+
+    pub limits-none : n ≤ 0 → encode (flatMap limitsOfPred (placedLeft n t x)) ≡ []
+    unfolding flatMap encode
+    limits-none h = ap (λ (l : List Placed). encode (flatMap limitsOfPred l)) (placed-none t x n h)
+
+-- ---- the roles that a type plays
+
+-- those of so many predicates, the first of whose roles has the set `i`
+unfoldable pub playing : ℕ → ℕ → List Predicate → List ℕ
+playing number i ps = select (has 0 number) i (flatMap (λ (p : Predicate). p .roles) ps)
+
+module _ (t : List ℕ) (number : ℕ) where
+  pub playing-start : (o : List ℕ) (at : ℕ) {x : Cursor} {n : ℕ} → x ≡ firstCursor t → n ≡ predCount t
+      → Writing o at (rolesOfType (diagramOf t) number) o at (playing number (x .roles) (predsIn n (drop (x .at) t)))
+  unfolding rolesOfType allRoles diagramOf playing
+  playing-start o at ex en = rw (ex, en) (writing-start o at (rolesOfType (diagramOf t) number))
+
+  playing-cons : (i at n : ℕ) {e : ℕ} → 0 < n → e ≡ at + predLength (drop at t)
+      → playing number i (predsIn n (drop at t))
+      ≡ select (has 0 number) i (rolesIn (getD (drop at t) 2 0) (drop (at + 4) t)) ++ playing number (i + getD (drop at t) 2 0) (predsIn (n - 1) (drop e t))
+  unfolding playing flatMap
+  playing-cons i at n {e} h ee =
+      let s : List ℕ = drop at t in
+      let rest : List Role = flatMap (λ (p : Predicate). p .roles) (predsIn (n - 1) (drop e t)) in
+      ap (playing number i) (preds-more t at n h ee)
+      ∙ select-append (has 0 number) i (rolesIn (getD s 2 0) (drop 4 s)) rest
+      ∙ ap₂ {C = List ℕ} (λ a m. select (has 0 number) i (rolesIn (getD s 2 0) a) ++ select (has 0 number) (i + m) rest) (drop-drop 4 at t) (each-length roleOf 3 (getD s 2 0) (drop 4 s))
+
+  module _ (x : Cursor) (n : ℕ) where
+    pub playing-more : {y : Cursor} {r : ℕ} → 0 < n → y ≡ nextCursor t x → r ≡ getD (drop (x .at) t) 2 0
+        → Splits (playing number (x .roles) (predsIn n (drop (x .at) t)))
+        (select (has 0 number) (x .roles) (rolesIn r (drop (x .at + 4) t)))
+        (playing number (y .roles) (predsIn (n - 1) (drop (y .at) t)))
+    playing-more h e er = record { is = rw (e, er) (playing-cons (x .roles) (x .at) n h refl) }
+
+    pub playing-none : n ≤ 0 → playing number (x .roles) (predsIn n (drop (x .at) t)) ≡ []
+    unfolding playing flatMap select
+    playing-none h = ap (playing number (x .roles)) (preds-none n (drop (x .at) t) h)
+
+  -- counted
+  module _ {at n : ℕ} where
+    pub played-start : at ≡ firstPredAt t → n ≡ predCount t
+        → 0 + length (playing number 0 (predsIn n (drop at t))) ≡ length (rolesOfType (diagramOf t) number)
+    unfolding rolesOfType allRoles diagramOf playing
+    played-start ea en = rw (ea, en) (omega (arith, select-length (has 0 number) 0 (firstRole (diagramOf t)) (allRoles (diagramOf t))))
+
+  module _ (at n m : ℕ) {total : ℕ} (w : m + length (playing number 0 (predsIn n (drop at t))) ≡ total) where
+    pub played-more : {e r k : ℕ} → 0 < n → e ≡ at + predLength (drop at t) → r ≡ getD (drop at t) 2 0
+        → k ≡ length (select (has 0 number) 0 (rolesIn r (drop (at + 4) t)))
+        → (m + k) + length (playing number 0 (predsIn (n - 1) (drop e t))) ≡ total
+    unfolding playing
+    played-more {e} {r} {k} h ee er ek =
+        let rest : List Role = flatMap (λ (p : Predicate). p .roles) (predsIn (n - 1) (drop e t)) in
+        let here : List ℕ = select (has 0 number) 0 (rolesIn r (drop (at + 4) t)) in
+        let split : length (playing number 0 (predsIn n (drop at t))) ≡ length (here ++ select (has 0 number) (0 + r) rest) =
+        rw er (ap length (playing-cons 0 at n h ee)) in
+        omega (arith, split, length-append here (select (has 0 number) (0 + r) rest), select-length (has 0 number) (0 + r) 0 rest, ek, w)
+
+    pub played-all : n ≤ 0 → m ≡ total
+    unfolding playing flatMap select
+    played-all h = let none : length (playing number 0 (predsIn n (drop at t))) ≡ 0 = ap (λ (ps : List Predicate). length (playing number 0 ps)) (preds-none n (drop at t) h) in omega (arith, none, w)
+
+-- ---- types
+
+module _ (d : Diagram) (a : ℕ) {o o₁ o₂ : List ℕ} {at b c : ℕ} where
+  pub sum-is : {n number : ℕ} → number ≡ a + 1 → n ≡ length (rolesOfType d number) → Wrote o at (1 ∷ a ∷ 0 ∷ n ∷ []) o₁ b
+      → Wrote o₁ b (rolesOfType d number) o₂ c → Wrote o at (encode (limitOfPlayed d a ∷ [])) o₂ c
+  unfolding encode encodeExpr
+  sum-is {n} {number} e en w v =
+      let e′ : number ≡ suc a = e ∙ add-one a in
+      wrote-as (wrote-then w v) (rw (en, e′) (sym (append-nil (1 ∷ a ∷ 0 ∷ length (rolesOfType d (suc a)) ∷ rolesOfType d (suc a)))))
+
+  pub type-is : (s : List ℕ) {super indep set : ℕ} {subtype dependent : Bool} → super ≡ getD s 4 0 → set ≡ super - 1
+      → subtype ≡ not (eqb super 0) → indep ≡ getD s 5 0 → dependent ≡ not (eqb indep 1)
+      → Wrote o at (encode (onlyIf subtype (atMost a set))) o₁ b → Wrote o₁ b (encode (onlyIf dependent (limitOfPlayed d a))) o₂ c
+      → Wrote o at (encode (limitsOfType d a (typeOf s))) o₂ c
+  unfolding limitsOfType isRoot isIndependent
+  type-is s {super} {indep} {set} {subtype} {dependent} es eset eb ei eo w v =
+      wrote-as (wrote-then w v) (sym (encode-append (onlyIf subtype (atMost a set)) (onlyIf dependent (limitOfPlayed d a))) ∙ rw (eb, eo, eset, es, ei))
+
+module _ (t : List ℕ) where
+  pub types-start : (o : List ℕ) (at : ℕ) {n : ℕ} → n ≡ typeCount t
+      → Writing o at (items (limitsOfType (diagramOf t)) 0 (diagramOf t .types)) o at
+      (items (limitsOfType (diagramOf t)) 0 (typesIn n (drop 2 t)))
+  unfolding diagramOf
+  types-start o at e = rw e (writing-start o at (items (limitsOfType (diagramOf t)) 0 (typesIn (typeCount t) (drop 2 t))))
+
+  pub types-more : (d : Diagram) (q n i : ℕ) → 0 < n
+      → Splits (items (limitsOfType d) i (typesIn n (drop q t))) (encode (limitsOfType d i (typeOf (drop q t))))
+      (items (limitsOfType d) (i + 1) (typesIn (n - 1) (drop (q + 6) t)))
+  types-more d q n i = items-more typeOf 6 (limitsOfType d) t q n i
+
+pub limits-is : (d : Diagram) {o o₁ o₂ : List ℕ} {at a b : ℕ} → Wrote o at (encode (flatMap limitsOfPred (placed d))) o₁ a
+    → Wrote o₁ a (items (limitsOfType d) 0 (d .types)) o₂ b → Wrote o at (encode (limits d)) o₂ b
+unfolding limits
+limits-is d w v =
+    wrote-as (wrote-then w v) (sym (encode-append (flatMap limitsOfPred (placed d)) (flatten (mapFrom (limitsOfType d) 0 (d .types)))))

@@ -1,0 +1,526 @@
+// From a table that can be walked: the lower and upper bounds of its sets and the limits between them,
+// written into buffers. Limits are written as numbers, as specs/Encoding.antt of lowering says.
+ghost use mathlib.Core.Path.{_≡_};
+ghost use mathlib.Core.Bool.{not};
+ghost use mathlib.Core.List.{[], _∷_, map, flatMap, flatten};
+ghost use Prim.Native.Nat.{_+_, _-_, _≤_, _<_};
+ghost use lib.Dec.{eqb};
+ghost use lib.ListN.{length, drop};
+ghost use Rattle.counting.specs.Lists.{upFrom, mapFrom};
+ghost use Rattle.orm.specs.Diagram.{ObjectType, Predicate};
+ghost use Rattle.orm.specs.Form.{typeOf, roleOf, groupOf};
+ghost use Rattle.orm.specs.Sets.{lower, upper, upperOfType, select, groupRoles, atMost, onlyIf, limitsOfRole, limitsOfGroup};
+ghost use Rattle.orm.specs.Sets.{limitOfRows, limitsOfPred, limitsOfType, limits, placed, rolesOfType};
+ghost use Rattle.lowering.specs.Encoding.{encode};
+ghost use Rattle.buffer.specs.Written.{Wrote};
+ghost use Rattle.table.specs.Positions.{rolesIn, diagramOf, Walkable};
+ghost use Rattle.table.specs.Cursors.{placedAt, Reach};
+ghost use Rattle.limits.specs.Selected.{when, has, Bounded, limitOfGroup, limitOfPlayed};
+
+// How many values first..last are; at least 1.
+fn values(first: u32, last: u32) -> u32
+    requires { ⌜ last ≤ 999999 ⌝ }
+    ensures { λ r. ⌜ r ≡ last - first + 1 ⌝ }
+{
+    if last < first { 1 } else { last - first + 1 }
+}
+
+// The upper bound of the type that starts at p.
+fn type_upper(t: &[u32], p: usize) -> u32
+    requires { ⌜ Walkable (now t) ⌝ }
+    ensures { λ r. ⌜ r ≡ upperOfType (typeOf (drop p (now (t .entry)))) ⌝ }
+{
+    let most = table::field(t, p, 1);
+    if table::field(t, p, 4) != 0 {
+        return most;
+    }
+    let v = values(table::field(t, p, 2), table::field(t, p, 3));
+    if v < most { v } else { most }
+}
+
+fn type_lowers(t: &[u32], out: &mut [u32], at: usize) -> usize
+    requires { ⌜ Walkable (now t) ⌝ }
+    ensures { λ r.
+        ⌜ Wrote (now (out .entry)) at (map (λ (x : ObjectType). x .min) (diagramOf (now (t .entry)) .types)) (now (out .exit)) r ⌝ }
+{
+    let mut left = table::type_count(t);
+    let mut p = 2;
+    let mut to = at;
+    while 0 < left {
+        to = buffer::push(out, to, table::field(t, p, 0));
+        p += 6;
+        left -= 1;
+    }
+    to
+}
+
+fn type_uppers(t: &[u32], out: &mut [u32], at: usize) -> usize
+    requires { ⌜ Walkable (now t) ⌝ }
+    ensures { λ r. ⌜ Wrote (now (out .entry)) at (map upperOfType (diagramOf (now (t .entry)) .types)) (now (out .exit)) r ⌝ }
+{
+    let mut left = table::type_count(t);
+    let mut p = 2;
+    let mut to = at;
+    while 0 < left {
+        to = buffer::push(out, to, type_upper(t, p));
+        p += 6;
+        left -= 1;
+    }
+    to
+}
+
+fn pred_lowers(t: &[u32], out: &mut [u32], at: usize) -> usize
+    requires { ⌜ Walkable (now t) ⌝ }
+    ensures { λ r.
+        ⌜ Wrote (now (out .entry)) at (map (λ (x : Predicate). x .min) (diagramOf (now (t .entry)) .preds)) (now (out .exit)) r ⌝ }
+{
+    let mut left = table::pred_count(t);
+    let mut p = table::first_pred(t);
+    let mut to = at;
+    while 0 < left {
+        to = buffer::push(out, to, table::field(t, p, 0));
+        p = table::pred_end(t, p);
+        left -= 1;
+    }
+    to
+}
+
+fn pred_uppers(t: &[u32], out: &mut [u32], at: usize) -> usize
+    requires { ⌜ Walkable (now t) ⌝ }
+    ensures { λ r.
+        ⌜ Wrote (now (out .entry)) at (map (λ (x : Predicate). x .max) (diagramOf (now (t .entry)) .preds)) (now (out .exit)) r ⌝ }
+{
+    let mut left = table::pred_count(t);
+    let mut p = table::first_pred(t);
+    let mut to = at;
+    while 0 < left {
+        to = buffer::push(out, to, table::field(t, p, 1));
+        p = table::pred_end(t, p);
+        left -= 1;
+    }
+    to
+}
+
+// The lower bounds of all sets.
+pub fn write_lower(t: &[u32], out: &mut [u32]) -> usize
+    requires { ⌜ Walkable (now t) ⌝ }
+    ensures { λ r. ⌜ Wrote (now (out .entry)) 0 (lower (diagramOf (now (t .entry)))) (now (out .exit)) r ⌝ }
+{
+    let a = type_lowers(t, out, 0);
+    let b = pred_lowers(t, out, a);
+    let c = buffer::fill(out, b, table::role_count(t), 1);
+    buffer::fill(out, c, table::group_count(t), 1)
+}
+
+// The upper bounds that the rounds start from.
+pub fn write_upper(t: &[u32], out: &mut [u32]) -> usize
+    requires { ⌜ Walkable (now t) ⌝ }
+    ensures { λ r. ⌜ Wrote (now (out .entry)) 0 (upper (diagramOf (now (t .entry)))) (now (out .exit)) r ⌝ }
+{
+    let a = type_uppers(t, out, 0);
+    let b = pred_uppers(t, out, a);
+    let c = buffer::fill(out, b, table::role_count(t), 4096);
+    buffer::fill(out, c, table::group_count(t), 4096)
+}
+
+// ---- single numbers
+
+fn same(a: u32, b: u32) -> bool
+    ensures { λ r. ⌜ r ≡ eqb a b ⌝ }
+{
+    a == b
+}
+
+fn differ(a: u32, b: u32) -> bool
+    ensures { λ r. ⌜ r ≡ not (eqb a b) ⌝ }
+{
+    a != b
+}
+
+// The index of a number that counts from 1.
+fn less_one(x: u32) -> u32
+    ensures { λ r. ⌜ r ≡ x - 1 ⌝ }
+    ensures { λ r. ⌜ r ≤ x ⌝ }
+{
+    if x == 0 { 0 } else { x - 1 }
+}
+
+fn push_if(out: &mut [u32], at: usize, yes: bool, x: u32) -> usize
+    ensures { λ r. ⌜ Wrote (now (out .entry)) at (when yes x) (now (out .exit)) r ⌝ }
+{
+    if yes { buffer::push(out, at, x) } else { at }
+}
+
+fn add_if(n: u32, yes: bool) -> u32
+    requires { ⌜ n ≤ 100000000 ⌝ }
+    ensures { λ r. ⌜ r ≡ n + length (when yes 0) ⌝ }
+    ensures { λ r. ⌜ r ≤ n + 1 ⌝ }
+{
+    if yes { n + 1 } else { n }
+}
+
+// `count` consecutive numbers.
+fn push_up(out: &mut [u32], at: usize, first: u32, count: u32) -> usize
+    requires { ⌜ first + count ≤ 300000000 ⌝ }
+    ensures { λ r. ⌜ Wrote (now (out .entry)) at (upFrom first count) (now (out .exit)) r ⌝ }
+{
+    let mut left = count;
+    let mut x = first;
+    let mut to = at;
+    while 0 < left {
+        to = buffer::push(out, to, x);
+        x += 1;
+        left -= 1;
+    }
+    to
+}
+
+// ---- roles that have a number at a place of their lines
+
+// The sets of those among the `count` roles from position q on; `first` is the first role's set.
+fn push_roles(
+    t: &[u32],
+    q: usize,
+    count: u32,
+    first: u32,
+    i: usize,
+    number: u32,
+    out: &mut [u32],
+    at: usize,
+) -> usize
+    requires { ⌜ Walkable (now t) ⌝ }
+    requires { ⌜ Bounded q count first i ⌝ }
+    ensures { λ r.
+        ⌜ Wrote (now (out .entry)) at (select (has i number) first (rolesIn count (drop q (now (t .entry))))) (now (out .exit)) r ⌝ }
+{
+    let mut left = count;
+    let mut p = q;
+    let mut set = first;
+    let mut to = at;
+    while 0 < left {
+        let yes = same(table::field(t, p, i), number);
+        to = push_if(out, to, yes, set);
+        p += 3;
+        set += 1;
+        left -= 1;
+    }
+    to
+}
+
+// How many they are.
+fn count_roles(t: &[u32], q: usize, count: u32, i: usize, number: u32) -> u32
+    requires { ⌜ Walkable (now t) ⌝ }
+    requires { ⌜ Bounded q count 0 i ⌝ }
+    ensures { λ r. ⌜ r ≡ length (select (has i number) 0 (rolesIn count (drop q (now (t .entry))))) ⌝ }
+    ensures { λ r. ⌜ r ≤ count ⌝ }
+{
+    let mut left = count;
+    let mut p = q;
+    let mut n: u32 = 0;
+    while 0 < left {
+        let yes = same(table::field(t, p, i), number);
+        n = add_if(n, yes);
+        p += 3;
+        left -= 1;
+    }
+    n
+}
+
+// The sets of the roles in the predicate's group with this number; 0: in no group.
+fn push_in_group(t: &[u32], x: table::Cursor, number: u32, out: &mut [u32], at: usize) -> usize
+    requires { ⌜ Walkable (now t) ⌝ }
+    requires { ⌜ Reach x 1 ⌝ }
+    ensures { λ r. ⌜ Wrote (now (out .entry)) at (groupRoles (placedAt (now (t .entry)) x) number) (now (out .exit)) r ⌝ }
+{
+    let q = x.at + 4;
+    let count = table::field(t, x.at, 2);
+    push_roles(t, q, count, x.roles, 2, number, out, at)
+}
+
+fn count_in_group(t: &[u32], x: table::Cursor, number: u32) -> u32
+    requires { ⌜ Walkable (now t) ⌝ }
+    requires { ⌜ Reach x 1 ⌝ }
+    ensures { λ r. ⌜ r ≡ length (groupRoles (placedAt (now (t .entry)) x) number) ⌝ }
+    ensures { λ r. ⌜ r ≤ 999999 ⌝ }
+{
+    let q = x.at + 4;
+    let count = table::field(t, x.at, 2);
+    count_roles(t, q, count, 2, number)
+}
+
+// ---- limits, as rounds::run reads them: kind, target, factor, number of operands, operands
+
+fn header(out: &mut [u32], at: usize, kind: u32, target: u32, factor: u32, count: u32) -> usize
+    ensures { λ r. ⌜ Wrote (now (out .entry)) at (kind ∷ target ∷ factor ∷ count ∷ []) (now (out .exit)) r ⌝ }
+{
+    let a = buffer::push(out, at, kind);
+    let b = buffer::push(out, a, target);
+    let c = buffer::push(out, b, factor);
+    buffer::push(out, c, count)
+}
+
+// One operand.
+fn unary(out: &mut [u32], at: usize, kind: u32, target: u32, factor: u32, operand: u32) -> usize
+    ensures { λ r. ⌜ Wrote (now (out .entry)) at (kind ∷ target ∷ factor ∷ 1 ∷ operand ∷ []) (now (out .exit)) r ⌝ }
+{
+    let a = header(out, at, kind, target, factor, 1);
+    buffer::push(out, a, operand)
+}
+
+fn push_at_most(out: &mut [u32], at: usize, s: u32, most: u32) -> usize
+    ensures { λ r. ⌜ Wrote (now (out .entry)) at (encode (atMost s most ∷ [])) (now (out .exit)) r ⌝ }
+{
+    unary(out, at, 0, s, 0, most)
+}
+
+fn push_at_most_if(out: &mut [u32], at: usize, yes: bool, s: u32, most: u32) -> usize
+    ensures { λ r. ⌜ Wrote (now (out .entry)) at (encode (onlyIf yes (atMost s most))) (now (out .exit)) r ⌝ }
+{
+    if yes {
+        push_at_most(out, at, s, most)
+    } else {
+        at
+    }
+}
+
+// The set of the group with this number.
+fn group_set(x: table::Cursor, number: u32) -> u32
+    requires { ⌜ Reach x 1 ⌝ }
+    requires { ⌜ number ≤ 999999 ⌝ }
+    ensures { λ r. ⌜ r ≡ x .groups + (number - 1) ⌝ }
+{
+    x.groups + less_one(number)
+}
+
+// The limits of the role at position q, whose set is p.
+fn push_role(t: &[u32], x: table::Cursor, p: u32, q: usize, out: &mut [u32], at: usize) -> usize
+    requires { ⌜ Walkable (now t) ⌝ }
+    requires { ⌜ Reach x 1 ⌝ }
+    ensures { λ r.
+        ⌜ Wrote (now (out .entry)) at (encode (limitsOfRole (placedAt (now (t .entry)) x) p (roleOf (drop q (now (t .entry))))))
+        (now (out .exit)) r ⌝ }
+{
+    let a = less_one(table::field(t, q, 0));
+    let group = table::field(t, q, 2);
+    let b = push_at_most(out, at, p, a);
+    let c = push_at_most(out, b, p, x.own);
+    let d = push_at_most_if(out, c, differ(group, 0), p, group_set(x, group));
+    push_at_most_if(out, d, same(table::field(t, q, 1), 1), a, p)
+}
+
+// The product of the roles in a group, as the group's limit.
+fn push_product(t: &[u32], x: table::Cursor, number: u32, out: &mut [u32], at: usize) -> usize
+    requires { ⌜ Walkable (now t) ⌝ }
+    requires { ⌜ Reach x 1 ⌝ }
+    requires { ⌜ number ≤ 999999 ⌝ }
+    ensures { λ r. ⌜ Wrote (now (out .entry)) at (encode (limitOfGroup (placedAt (now (t .entry)) x) number ∷ [])) (now (out .exit)) r ⌝ }
+{
+    let a = header(
+        out,
+        at,
+        0,
+        group_set(x, number),
+        0,
+        count_in_group(t, x, number),
+    );
+    push_in_group(t, x, number, out, a)
+}
+
+// The limits of the group with this number, whose line is at position q.
+fn push_group(
+    t: &[u32],
+    x: table::Cursor,
+    number: u32,
+    q: usize,
+    out: &mut [u32],
+    at: usize,
+) -> usize
+    requires { ⌜ Walkable (now t) ⌝ }
+    requires { ⌜ Reach x 1 ⌝ }
+    requires { ⌜ number ≤ 999999 ⌝ }
+    ensures { λ r.
+        ⌜ Wrote (now (out .entry)) at (encode (limitsOfGroup (placedAt (now (t .entry)) x) number (groupOf (drop q (now (t .entry))))))
+        (now (out .exit)) r ⌝ }
+{
+    let set = group_set(x, number);
+    let a = unary(out, at, 2, x.own, table::field(t, q, 1), set);
+    let b = unary(out, a, 3, set, table::field(t, q, 0), x.own);
+    push_product(t, x, number, out, b)
+}
+
+// The product of the groups and ungrouped roles, as the predicate's limit.
+fn push_rows(t: &[u32], x: table::Cursor, out: &mut [u32], at: usize) -> usize
+    requires { ⌜ Walkable (now t) ⌝ }
+    requires { ⌜ Reach x 1 ⌝ }
+    ensures { λ r. ⌜ Wrote (now (out .entry)) at (encode (limitOfRows (placedAt (now (t .entry)) x) ∷ [])) (now (out .exit)) r ⌝ }
+{
+    let groups = table::field(t, x.at, 3);
+    let a = header(out, at, 0, x.own, 0, groups + count_in_group(t, x, 0));
+    let b = push_up(out, a, x.groups, groups);
+    push_in_group(t, x, 0, out, b)
+}
+
+// ---- all limits
+
+fn push_role_limits(t: &[u32], x: table::Cursor, out: &mut [u32], at: usize) -> usize
+    requires { ⌜ Walkable (now t) ⌝ }
+    requires { ⌜ Reach x 1 ⌝ }
+    ensures { λ r.
+        ⌜ Wrote (now (out .entry)) at
+        (encode (flatten (mapFrom (limitsOfRole (placedAt (now (t .entry)) x)) (x .roles) (placedAt (now (t .entry)) x .predicate .roles))))
+        (now (out .exit)) r ⌝ }
+{
+    let mut left = table::field(t, x.at, 2);
+    let mut q = x.at + 4;
+    let mut p = x.roles;
+    let mut to = at;
+    while 0 < left {
+        to = push_role(t, x, p, q, out, to);
+        q += 3;
+        p += 1;
+        left -= 1;
+    }
+    to
+}
+
+fn push_group_limits(t: &[u32], x: table::Cursor, out: &mut [u32], at: usize) -> usize
+    requires { ⌜ Walkable (now t) ⌝ }
+    requires { ⌜ Reach x 1 ⌝ }
+    ensures { λ r.
+        ⌜ Wrote (now (out .entry)) at
+        (encode (flatten (mapFrom (limitsOfGroup (placedAt (now (t .entry)) x)) 1 (placedAt (now (t .entry)) x .predicate .groups))))
+        (now (out .exit)) r ⌝ }
+{
+    let mut left = table::field(t, x.at, 3);
+    let mut q = x.at + (4 + 3 * table::index(table::field(t, x.at, 2)));
+    let mut number: u32 = 1;
+    let mut to = at;
+    while 0 < left {
+        to = push_group(t, x, number, q, out, to);
+        q += 2;
+        number += 1;
+        left -= 1;
+    }
+    to
+}
+
+// The limits of the predicate at x.
+fn push_pred(t: &[u32], x: table::Cursor, out: &mut [u32], at: usize) -> usize
+    requires { ⌜ Walkable (now t) ⌝ }
+    requires { ⌜ Reach x 1 ⌝ }
+    ensures { λ r. ⌜ Wrote (now (out .entry)) at (encode (limitsOfPred (placedAt (now (t .entry)) x))) (now (out .exit)) r ⌝ }
+{
+    let a = push_role_limits(t, x, out, at);
+    let b = push_group_limits(t, x, out, a);
+    push_rows(t, x, out, b)
+}
+
+fn push_preds(t: &[u32], out: &mut [u32], at: usize) -> usize
+    requires { ⌜ Walkable (now t) ⌝ }
+    ensures { λ r.
+        ⌜ Wrote (now (out .entry)) at (encode (flatMap limitsOfPred (placed (diagramOf (now (t .entry)))))) (now (out .exit)) r ⌝ }
+{
+    let mut left = table::pred_count(t);
+    let mut x = table::first_cursor(t);
+    let mut to = at;
+    while 0 < left {
+        to = push_pred(t, x, out, to);
+        x = table::next_cursor(t, x);
+        left -= 1;
+    }
+    to
+}
+
+// The sets of the roles that the type with this number plays.
+fn push_played(t: &[u32], number: u32, out: &mut [u32], at: usize) -> usize
+    requires { ⌜ Walkable (now t) ⌝ }
+    ensures { λ r. ⌜ Wrote (now (out .entry)) at (rolesOfType (diagramOf (now (t .entry))) number) (now (out .exit)) r ⌝ }
+{
+    let mut left = table::pred_count(t);
+    let mut x = table::first_cursor(t);
+    let mut to = at;
+    while 0 < left {
+        let count = table::field(t, x.at, 2);
+        to = push_roles(t, x.at + 4, count, x.roles, 0, number, out, to);
+        x = table::next_cursor(t, x);
+        left -= 1;
+    }
+    to
+}
+
+fn count_played(t: &[u32], number: u32) -> u32
+    requires { ⌜ Walkable (now t) ⌝ }
+    ensures { λ r. ⌜ r ≡ length (rolesOfType (diagramOf (now (t .entry))) number) ⌝ }
+{
+    let mut left = table::pred_count(t);
+    let mut q = table::first_pred(t);
+    let mut n: u32 = 0;
+    while 0 < left {
+        let count = table::field(t, q, 2);
+        n += count_roles(t, q + 4, count, 0, number);
+        q = table::pred_end(t, q);
+        left -= 1;
+    }
+    n
+}
+
+// The sum of the roles that the type with the set a plays, as its limit.
+fn push_sum(t: &[u32], a: u32, out: &mut [u32], at: usize) -> usize
+    requires { ⌜ Walkable (now t) ⌝ }
+    requires { ⌜ a ≤ 32 ⌝ }
+    ensures { λ r. ⌜ Wrote (now (out .entry)) at (encode (limitOfPlayed (diagramOf (now (t .entry))) a ∷ [])) (now (out .exit)) r ⌝ }
+{
+    let number = a + 1;
+    let b = header(out, at, 1, a, 0, count_played(t, number));
+    push_played(t, number, out, b)
+}
+
+fn push_sum_if(t: &[u32], yes: bool, a: u32, out: &mut [u32], at: usize) -> usize
+    requires { ⌜ Walkable (now t) ⌝ }
+    requires { ⌜ a ≤ 32 ⌝ }
+    ensures { λ r.
+        ⌜ Wrote (now (out .entry)) at (encode (onlyIf yes (limitOfPlayed (diagramOf (now (t .entry))) a))) (now (out .exit)) r ⌝ }
+{
+    if yes { push_sum(t, a, out, at) } else { at }
+}
+
+// The limits of the type at position q, whose set is a.
+fn push_type(t: &[u32], a: u32, q: usize, out: &mut [u32], at: usize) -> usize
+    requires { ⌜ Walkable (now t) ⌝ }
+    requires { ⌜ a ≤ 32 ⌝ }
+    ensures { λ r.
+        ⌜ Wrote (now (out .entry)) at (encode (limitsOfType (diagramOf (now (t .entry))) a (typeOf (drop q (now (t .entry))))))
+        (now (out .exit)) r ⌝ }
+{
+    let super_type = table::field(t, q, 4);
+    let b = push_at_most_if(out, at, differ(super_type, 0), a, less_one(super_type));
+    push_sum_if(t, differ(table::field(t, q, 5), 1), a, out, b)
+}
+
+fn push_types(t: &[u32], out: &mut [u32], at: usize) -> usize
+    requires { ⌜ Walkable (now t) ⌝ }
+    ensures { λ r.
+        ⌜ Wrote (now (out .entry)) at
+        (encode (flatten (mapFrom (limitsOfType (diagramOf (now (t .entry)))) 0 (diagramOf (now (t .entry)) .types)))) (now (out .exit)) r ⌝ }
+{
+    let mut left = table::type_count(t);
+    let mut q = 2;
+    let mut a: u32 = 0;
+    let mut to = at;
+    while 0 < left {
+        to = push_type(t, a, q, out, to);
+        q += 6;
+        a += 1;
+        left -= 1;
+    }
+    to
+}
+
+// The limits of all sets.
+pub fn write_limits(t: &[u32], out: &mut [u32]) -> usize
+    requires { ⌜ Walkable (now t) ⌝ }
+    ensures { λ r. ⌜ Wrote (now (out .entry)) 0 (encode (limits (diagramOf (now (t .entry))))) (now (out .exit)) r ⌝ }
+{
+    let a = push_preds(t, out, 0);
+    push_types(t, out, a)
+}

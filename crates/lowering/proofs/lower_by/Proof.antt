@@ -1,0 +1,24 @@
+-- `lowering::lower_by` meets its contract. Where the value is below the entry it is stored; elsewhere the store would change nothing.
+-- Assumes nothing.
+use Rattle.lowering.proofs.Step.{lower-here, lower-kept, lower-out}
+use borrow.Author.Needs.{needs}
+use Rattle.lowering.proofs.lower_by.Statement.{statement}
+use Rattle.lowering.proofs.lower_by.Tie as tie
+
+pub lower-by-spec : {M : Type 1} → statement M
+lower-by-spec =
+    tie.close
+    (tie.spec
+    (λ c. search needs)
+    (λ c. search needs)
+    (λ c. search needs)
+    (λ c κs. search needs)
+    (λ c κs. search needs)
+    (λ c. search needs)
+    (λ c. search needs)
+    (λ c. search needs)
+    (λ c. search needs)
+    (λ c. search needs)
+    (λ c. search (needs, lower-here))
+    (λ c. search (needs, lower-kept))
+    (λ c. search (needs, lower-out)))

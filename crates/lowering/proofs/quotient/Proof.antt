@@ -1,0 +1,13 @@
+-- `lowering::quotient` meets its contract. A quotient by 0 is 0.
+-- Assumes nothing.
+use mathlib.Core.Path.{sym}
+use native.Mathlib.Nat.{div-zero}
+use borrow.Author.Needs.{needs}
+use Rattle.lowering.proofs.quotient.Statement.{statement}
+use Rattle.lowering.proofs.quotient.Tie as tie
+
+returns : tie.Need-returns
+returns c = rw (c .if1 .taken) (sym (div-zero _))
+
+pub quotient-spec : {M : Type 1} → statement M
+quotient-spec = tie.close (tie.spec (λ c. search needs) returns (λ c. search needs))

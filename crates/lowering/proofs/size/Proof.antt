@@ -1,0 +1,16 @@
+-- `lowering::size` meets its contract. The entry at an index, or 0 past the end, is `getD`.
+-- Assumes nothing.
+use Rattle.lowering.proofs.Scan.{past-end}
+use borrow.Author.Needs.{needs}
+use Rattle.lowering.proofs.size.Statement.{statement}
+use Rattle.lowering.proofs.size.Tie as tie
+
+pub size-spec : {M : Type 1} → statement M
+size-spec =
+    tie.close
+    (tie.spec
+    (λ c κs. search needs)
+    (λ c. search needs)
+    (λ c. search needs)
+    (λ c. cc)
+    (λ c. search (needs, past-end)))

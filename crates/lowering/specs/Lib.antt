@@ -1,0 +1,4 @@
+pub mod Sizes
+pub mod Encoding
+pub mod Laws
+pub mod Worked

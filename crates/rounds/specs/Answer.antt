@@ -1,0 +1,62 @@
+-- What the functions answer, in the words of Limits.antt.
+use Prim.Native.Nat.{ℕ, _≤_, _<_}
+use mathlib.Core.Path.{_≡_}
+use mathlib.Core.Bool.{Bool, true, false, _&&_}
+use mathlib.Core.List.{List, [], _∷_}
+use lib.Dec.{eqb, leb}
+use lib.ListN.{length}
+use mathlib.Core.Option.{Option, none, some}
+use Rattle.fixpoint.specs.Limits.{Verdict, unsatisfiable, fixpoint, firstBelow}
+use Rattle.lowering.specs.Sizes.{Small}
+use Rattle.dependents.specs.Dependents.{Known}
+use Rattle.rounds.specs.declared.Place.{Place}
+use Rattle.rounds.specs.declared.Place.the-variants.{At, Nowhere}
+use Rattle.rounds.specs.declared.Outcome.{Outcome}
+use Rattle.rounds.specs.declared.Outcome.the-variants.{Refused, Unsatisfiable, Fixpoint}
+
+abbrev pub placeOf : Option ℕ → Place
+placeOf (some i) = At i
+placeOf none = Nowhere
+
+abbrev pub outcomeOf : Verdict → Outcome
+outcomeOf (unsatisfiable s n) = Unsatisfiable s n
+outcomeOf (fixpoint n c) = Fixpoint n
+
+-- The upper bounds that a verdict leaves: those of the fixpoint, or `c` as they were
+abbrev pub upperOf : Verdict → List ℕ → List ℕ
+upperOf (unsatisfiable s n) c = c
+upperOf (fixpoint n c′) c = c′
+
+-- What a run starts from: as many lower as upper bounds, at most 208, the upper ones small
+pub record Bounds (lower upper : List ℕ) : Type 0 where
+  pub paired : length lower ≡ length upper
+  pub few : length upper ≤ 208
+  pub small : Small upper
+
+-- Scratch for the rounds on `upper`: a place for each set and one more, and room for two lists of sizes
+pub record Space (starts upper next spare : List ℕ) : Type 0 where
+  pub places : length upper < length starts
+  pub next-long : length next ≡ length upper
+  pub spare-long : length spare ≡ length upper
+
+-- What the loop of rounds starts from: `next` came from `upper` by a round, and no upper bound is below its lower bound
+pub record Started (b : Bool) (xs lower starts entries upper next : List ℕ) : Type 0 where
+  pub bounds : Bounds lower upper
+  pub above : firstBelow 0 lower upper ≡ none
+  pub known : Known b xs starts entries upper next
+
+-- The same as a test, which `run` makes
+unfoldable pub allSmall : List ℕ → Bool
+allSmall [] = true
+allSmall (x ∷ xs) = leb x 4096 && allSmall xs
+
+unfoldable pub taken : List ℕ → List ℕ → Bool
+taken lower upper = eqb (length lower) (length upper) && (leb (length upper) 208 && allSmall upper)
+
+abbrev pub whenTaken : Bool → Outcome → Outcome
+whenTaken true o = o
+whenTaken false o = Refused
+
+abbrev pub keptUnless : Bool → List ℕ → List ℕ → List ℕ
+keptUnless true c′ c = c′
+keptUnless false c′ c = c

@@ -1,0 +1,30 @@
+-- `table::role_count` meets its contract. The roles counted and those of the predicates left come to all roles.
+-- Assumes nothing.
+use Prim.Native.Nat.{_+_, _*_, _≤_}
+use Rattle.table.specs.Laws.Walks.{RolesLeft, roles-start, roles-more, roles-all}
+use borrow.Author.Needs.{needs}
+use Rattle.table.proofs.role_count.Statement.{statement}
+use Rattle.table.proofs.role_count.Tie as tie
+
+abbrev Inv-loop : tie.InvT-loop
+Inv-loop t at₀ left₀ n₀ at left n = (at + 5000000 * left ≤ 200000000) × (n + 1000000 * left ≤ 32000000) × RolesLeft t at left n
+
+abbrev μ-loop : tie.MeasureT-loop
+μ-loop t at₀ left₀ n₀ at left n = left
+
+pub role-count-spec : {M : Type 1} → statement M
+role-count-spec =
+    tie.close
+    (tie.spec
+    Inv-loop
+    μ-loop
+    (λ c κs. search needs)
+    (λ c κs. search needs)
+    (λ c. search (needs, roles-start))
+    (λ c κs. search needs)
+    (λ c. search needs)
+    (λ c κs. search needs)
+    (λ c. search needs)
+    (λ c. search needs)
+    (λ c. search (needs, roles-more))
+    (λ c. search (needs, roles-all)))

@@ -1,0 +1,158 @@
+-- `diagramOf` undoes `table`: a table without fault of form gives by positions the diagram that reading it gives.
+use Prim.Native.Nat.{ℕ, _+_, _*_}
+use native.Mathlib.Nat.{mul-suc}
+use native.Mathlib.Omega.{arith}
+use mathlib.Core.Path.{_≡_, refl, sym, ap, ap₂, _∙_}
+use mathlib.Core.List.{List, [], _∷_, _++_, map, flatMap, append-assoc}
+use lib.ListN.{length, getD, drop, length-append}
+use lib.Seq.{drop-at, drop-drop}
+use Rattle.orm.specs.Diagram.{ObjectType, Role, Frequency, Predicate, Diagram, Line, lineOfType, lineOfRole, lineOfGroup, lineOfPred}
+use Rattle.orm.specs.Diagram.{linesOfPred, lineOfCount, predsLine, endLine, allRoles, lines, table}
+use Rattle.orm.specs.Reader.{read}
+use Rattle.orm.specs.Form.{typeOf, roleOf, groupOf, reading}
+use Rattle.orm.specs.Text.{tableLine}
+use Rattle.reading.specs.Laws.{table-read-iff}
+use Rattle.table.specs.Positions.{each, typesIn, rolesIn, groupsIn, predOf, predLength, predsIn, diagramOf}
+
+-- The numbers of some lines
+unfoldable pub values : List Line → List ℕ
+values ls = flatMap (λ (l : Line). l .values) ls
+
+pub values-append : (ls ks : List Line) → values (ls ++ ks) ≡ values ls ++ values ks
+unfolding values flatMap
+values-append [] ks = refl
+values-append (l ∷ ls) ks =
+    ap (λ (r : List ℕ). l .values ++ r) (values-append ls ks) ∙ sym (append-assoc (l .values) (values ls) (values ks))
+
+-- lines of one kind, `k` numbers each
+module _ {A : Type 0} (make : List ℕ → A) (k : ℕ) (lineOf : A → Line) (made : (a : A) (s : List ℕ) → make (lineOf a .values ++ s) ≡ a)
+    (long : (a : A) → length (lineOf a .values) ≡ k) where
+  each-back : (xs : List A) (s : List ℕ) → each make k (length xs) (values (map lineOf xs) ++ s) ≡ xs
+  unfolding each values flatMap
+  each-back [] s = refl
+  each-back (a ∷ xs) s =
+      rw append-assoc
+      (ap₂ {C = List A} (λ y ys. y ∷ ys) (made a (values (map lineOf xs) ++ s)) (ap (each make k (length xs)) (drop-at (lineOf a .values) (values (map lineOf xs) ++ s) k (long a))
+      ∙ each-back xs s))
+
+  each-long : (xs : List A) → length (values (map lineOf xs)) ≡ k * length xs
+  unfolding values flatMap
+  each-long [] = omega arith
+  each-long (a ∷ xs) = omega (arith, length-append (lineOf a .values) (values (map lineOf xs)), long a, each-long xs, mul-suc k (length xs))
+
+types-back : (ts : List ObjectType) (s : List ℕ) → typesIn (length ts) (values (map lineOfType ts) ++ s) ≡ ts
+unfolding lineOfType
+types-back = each-back typeOf 6 lineOfType (λ t s. refl) (λ t. refl)
+
+types-long : (ts : List ObjectType) → length (values (map lineOfType ts)) ≡ 6 * length ts
+unfolding lineOfType
+types-long = each-long typeOf 6 lineOfType (λ t s. refl) (λ t. refl)
+
+roles-back : (rs : List Role) (s : List ℕ) → rolesIn (length rs) (values (map lineOfRole rs) ++ s) ≡ rs
+unfolding lineOfRole
+roles-back = each-back roleOf 3 lineOfRole (λ r s. refl) (λ r. refl)
+
+roles-long : (rs : List Role) → length (values (map lineOfRole rs)) ≡ 3 * length rs
+unfolding lineOfRole
+roles-long = each-long roleOf 3 lineOfRole (λ r s. refl) (λ r. refl)
+
+groups-back : (gs : List Frequency) (s : List ℕ) → groupsIn (length gs) (values (map lineOfGroup gs) ++ s) ≡ gs
+unfolding lineOfGroup
+groups-back = each-back groupOf 2 lineOfGroup (λ g s. refl) (λ g. refl)
+
+groups-long : (gs : List Frequency) → length (values (map lineOfGroup gs)) ≡ 2 * length gs
+unfolding lineOfGroup
+groups-long = each-long groupOf 2 lineOfGroup (λ g s. refl) (λ g. refl)
+
+module _ (p : Predicate) (s : List ℕ) where
+  head : List ℕ
+  head = lineOfPred p .values
+
+  roles : List ℕ
+  roles = values (map lineOfRole (p .roles))
+
+  groups : List ℕ
+  groups = values (map lineOfGroup (p .groups))
+
+  whole : List ℕ
+  whole = head ++ (roles ++ (groups ++ s))
+
+  pred-whole : values (linesOfPred p) ++ s ≡ whole
+  unfolding whole head roles groups linesOfPred flatMap values lineOfPred
+  pred-whole =
+      ap (λ (x : List ℕ). head ++ x) (ap (λ (x : List ℕ). x ++ s) (values-append (map lineOfRole (p .roles)) (map lineOfGroup (p .groups))) ∙ append-assoc roles groups s)
+
+  groups-at : drop (4 + 3 * length (p .roles)) whole ≡ groups ++ s
+  unfolding whole head roles lineOfPred
+  groups-at =
+      let long : length (head ++ roles) ≡ 4 + 3 * length (p .roles) = omega (arith, length-append head roles, roles-long (p .roles)) in
+      ap (drop (4 + 3 * length (p .roles))) (sym (append-assoc head roles (groups ++ s)))
+      ∙ drop-at (head ++ roles) (groups ++ s) (4 + 3 * length (p .roles)) long
+
+  pred-end : drop (predLength whole) whole ≡ s
+  unfolding whole head roles groups lineOfPred
+  pred-end =
+      let n : ℕ = 4 + 3 * length (p .roles) + 2 * length (p .groups) in
+      let long : length (head ++ (roles ++ groups)) ≡ n =
+      omega (arith, length-append roles groups, roles-long (p .roles), groups-long (p .groups)) in
+      ap (λ (x : List ℕ). drop n (head ++ x)) (sym (append-assoc roles groups s)) ∙ drop-at (head ++ (roles ++ groups)) s n long
+
+  pred-back : predOf whole ≡ p
+  unfolding whole head roles groups lineOfPred
+  pred-back =
+      ap₂ (λ (rs : List Role) (gs : List Frequency). record { min = p .min; max = p .max; roles = rs; groups = gs })
+      (roles-back (p .roles) (groups ++ s))
+      (ap (groupsIn (length (p .groups))) groups-at ∙ groups-back (p .groups) s)
+
+preds-back : (ps : List Predicate) (s : List ℕ) → predsIn (length ps) (values (flatMap linesOfPred ps) ++ s) ≡ ps
+unfolding predsIn flatMap
+preds-back [] s = refl
+preds-back (p ∷ ps) s =
+    let rest : List ℕ = values (flatMap linesOfPred ps) ++ s in
+    let e : values (linesOfPred p ++ flatMap linesOfPred ps) ++ s ≡ whole p rest =
+    ap (λ (x : List ℕ). x ++ s) (values-append (linesOfPred p) (flatMap linesOfPred ps))
+    ∙ append-assoc (values (linesOfPred p)) (values (flatMap linesOfPred ps)) s ∙ pred-whole p rest in
+    ap (λ (x : List ℕ). predOf x ∷ predsIn (length ps) (drop (predLength x) x)) e
+    ∙ ap₂ {C = List Predicate} (λ x xs. x ∷ xs) (pred-back p rest) (ap (predsIn (length ps)) (pred-end p rest) ∙ preds-back ps s)
+
+module _ (d : Diagram) where
+  types : List ℕ
+  types = values (map lineOfType (d .types))
+
+  from-preds : List ℕ
+  from-preds = length (d .preds) ∷ (values (flatMap linesOfPred (d .preds)) ++ (length (allRoles d) ∷ []))
+
+  table-whole : table d ≡ 1 ∷ length (d .types) ∷ (types ++ from-preds)
+  unfolding table lines lineOfCount types from-preds values flatMap
+  table-whole =
+      let first : List Line = map lineOfType (d .types) in
+      let preds : List Line = flatMap linesOfPred (d .preds) in
+      let last : List Line = lineOfCount endLine (length (allRoles d)) ∷ [] in
+      ap (λ (x : List ℕ). 1 ∷ length (d .types) ∷ x)
+      (ap values (append-assoc first (lineOfCount predsLine (length (d .preds)) ∷ preds) last)
+      ∙ values-append first (lineOfCount predsLine (length (d .preds)) ∷ (preds ++ last))
+      ∙ ap (λ (x : List ℕ). types ++ (length (d .preds) ∷ x)) (values-append preds last))
+
+  preds-at : drop (2 + 6 * length (d .types)) (1 ∷ length (d .types) ∷ (types ++ from-preds)) ≡ from-preds
+  unfolding types
+  preds-at =
+      let long : length (1 ∷ length (d .types) ∷ types) ≡ 2 + 6 * length (d .types) = omega (arith, types-long (d .types)) in
+      drop-at (1 ∷ length (d .types) ∷ types) from-preds (2 + 6 * length (d .types)) long
+
+  preds-after : drop (3 + 6 * length (d .types)) (1 ∷ length (d .types) ∷ (types ++ from-preds)) ≡ values (flatMap linesOfPred (d .preds)) ++ (length (allRoles d) ∷ [])
+  unfolding from-preds
+  preds-after =
+      let e : 3 + 6 * length (d .types) ≡ 2 + 6 * length (d .types) + 1 = omega arith in
+      rw e (sym (drop-drop 1 (2 + 6 * length (d .types)) (1 ∷ length (d .types) ∷ (types ++ from-preds))) ∙ ap (drop 1) preds-at)
+
+  pub table-back : diagramOf (table d) ≡ d
+  unfolding diagramOf types from-preds
+  table-back =
+      rw table-whole
+      (ap₂ (λ (ts : List ObjectType) (ps : List Predicate). record { types = ts; preds = ps })
+      (types-back (d .types) from-preds)
+      (ap₂ (λ (s r : List ℕ). predsIn (getD s 0 0) r) preds-at preds-after ∙ preds-back (d .preds) (length (allRoles d) ∷ [])))
+
+-- Reading and positions agree
+pub read-back : (t : List ℕ) (d : Diagram) (n : ℕ) (rest : List ℕ) → reading tableLine t ≡ read d n rest → diagramOf t ≡ d
+read-back t d n rest e = ap diagramOf (table-read-iff t d n rest .0 e .from) ∙ table-back d

@@ -1,0 +1,137 @@
+-- A table with no fault of form. Its numbers are small, so that it can be walked.
+use Prim.Native.Nat.{ℕ, zero, suc, _+_, _≤_}
+use native.Mathlib.Omega.{arith}
+use mathlib.Core.Path.{_≡_, refl, ap, subst⁻¹, _∙_}
+use mathlib.Core.List.{List, [], _∷_, _++_, map, flatMap, List·Memᴰ·head as here, List·Memᴰ·tail as there}
+use lib.ListN.{length, getD, drop}
+use Rattle.orm.specs.Diagram.{ObjectType, Role, Frequency, Predicate, Diagram, Line, lineOfType, lineOfRole, lineOfGroup, lineOfPred}
+use Rattle.orm.specs.Diagram.{linesOfPred, lineOfCount, allRoles, lines, table}
+use Rattle.orm.specs.Form.{typeOf}
+use Rattle.orm.specs.Text.{tableLine}
+use Rattle.counting.specs.Terms.{EachFrom}
+use Rattle.counting.specs.Terms.{Each}
+use Rattle.orm.specs.Outcome.{accepted}
+use Rattle.orm.specs.Calls.{diagramIn}
+use Rattle.orm.specs.WellFormed.{TypeForm, RoleForm, GroupForm, PredForm, WellFormed}
+use Rattle.reading.specs.TextLength.{first-small}
+use Rattle.reading.specs.Laws.{table-accepted-iff}
+use Rattle.table.specs.Valid.{Valid, Under}
+use Rattle.table.specs.Positions.{typeCount, predCount, firstPredAt, diagramOf, Walkable}
+use Rattle.table.specs.Laws.Walks.{each-length, preds-length}
+use Rattle.table.specs.Laws.TableOf.{values, values-append, table-back}
+
+pub under-nil : (b : ℕ) → Under b []
+under-nil b = record { at = λ k. omega arith }
+
+pub under-cons : {b x : ℕ} {xs : List ℕ} → x ≤ b → Under b xs → Under b (x ∷ xs)
+under-cons {b} {x} {xs} h u = record { at = go }
+  where
+    go : (k : ℕ) → getD (x ∷ xs) k 0 ≤ b
+    go zero = h
+    go (suc k) = u .at k
+
+pub under-append : {b : ℕ} (xs ys : List ℕ) → Under b xs → Under b ys → Under b (xs ++ ys)
+under-append [] ys u v = v
+under-append (x ∷ xs) ys u v = under-cons (u .at 0) (under-append xs ys (record { at = λ k. u .at (suc k) }) v)
+
+-- ---- the numbers of lines
+
+abbrev Small : List Line → Type 0
+Small ls = Under 999999 (values ls)
+
+small-nil : Small []
+unfolding values flatMap
+small-nil = under-nil 999999
+
+small-cons : (l : Line) (ls : List Line) → Under 999999 (l .values) → Small ls → Small (l ∷ ls)
+unfolding values flatMap
+small-cons l ls u v = under-append (l .values) (values ls) u v
+
+small-append : (ls ks : List Line) → Small ls → Small ks → Small (ls ++ ks)
+small-append ls ks u v = rw values-append (under-append (values ls) (values ks) u v)
+
+module _ {A : Type 0} where
+  small-each : (lineOf : A → Line) (xs : List A) → Each (λ (a : A). Under 999999 (lineOf a .values)) xs → Small (map lineOf xs)
+  small-each lineOf [] h = small-nil
+  small-each lineOf (x ∷ xs) h = small-cons (lineOf x) (map lineOf xs) (h x (here refl)) (small-each lineOf xs (λ a m. h a (there m)))
+
+  small-flat : (linesOf : A → List Line) (xs : List A) → Each (λ (a : A). Small (linesOf a)) xs → Small (flatMap linesOf xs)
+  unfolding flatMap
+  small-flat linesOf [] h = small-nil
+  small-flat linesOf (x ∷ xs) h =
+      small-append (linesOf x) (flatMap linesOf xs) (h x (here refl)) (small-flat linesOf xs (λ a m. h a (there m)))
+
+-- a numbered statement gives one of each element
+pub each-of : {A : Type 0} (P : ℕ → A → Type 0) (Q : A → Type 0) → ((n : ℕ) (a : A) → P n a → Q a) → (n : ℕ) (xs : List A)
+    → EachFrom P n xs → Each Q xs
+each-of P Q f n (x ∷ xs) h a (here e) = subst⁻¹ Q e (f n x (h .0))
+each-of P Q f n (x ∷ xs) h a (there m) = each-of P Q f (suc n) xs (h .1) a m
+
+-- ---- the lines of a well-formed diagram
+
+type-small : (n : ℕ) (t : ObjectType) → n ≤ 999999 → TypeForm n t → Under 999999 (lineOfType t .values)
+unfolding lineOfType
+type-small n t h f =
+    under-cons (omega (arith, f .sizes, f .most))
+    (under-cons (omega (arith, f .most))
+    (under-cons (first-small n t f)
+    (under-cons (f .largest)
+    (under-cons (omega (arith, f .above))
+    (under-cons (omega (arith, f .indep)) (under-nil 999999))))))
+
+types-small : (n : ℕ) (ts : List ObjectType) → n + length ts ≤ 999999 → EachFrom TypeForm n ts → Small (map lineOfType ts)
+types-small n [] h f = small-nil
+types-small n (t ∷ ts) h f =
+    small-cons (lineOfType t) (map lineOfType ts) (type-small n t (omega arith) (f .0)) (types-small (suc n) ts (omega arith) (f .1))
+
+role-small : (types groups : ℕ) (r : Role) → types ≤ 999999 → groups ≤ 999999 → RoleForm types groups r
+    → Under 999999 (lineOfRole r .values)
+unfolding lineOfRole
+role-small types groups r h k f =
+    under-cons (omega (arith, f .player .1)) (under-cons (omega (arith, f .mand)) (under-cons (omega (arith, f .group)) (under-nil 999999)))
+
+group-small : (rs : List Role) (n : ℕ) (g : Frequency) → GroupForm rs n g → Under 999999 (lineOfGroup g .values)
+unfolding lineOfGroup
+group-small rs n g f = under-cons (omega (arith, f .counts, f .most)) (under-cons (omega (arith, f .most)) (under-nil 999999))
+
+pred-small : (types : ℕ) (p : Predicate) → types ≤ 999999 → PredForm types p → Small (linesOfPred p)
+unfolding linesOfPred lineOfPred
+pred-small types p h f =
+    let few : length (p .groups) ≤ 999999 = omega (arith, f .few) in
+    small-append (lineOfPred p ∷ map lineOfRole (p .roles)) (map lineOfGroup (p .groups))
+    (small-cons (lineOfPred p) (map lineOfRole (p .roles))
+    (under-cons (omega (arith, f .sizes, f .most)) (under-cons (omega (arith, f .most)) (under-cons (omega (arith, f .arity .1)) (under-cons few (under-nil 999999)))))
+    (small-each lineOfRole (p .roles) (λ r m. role-small types (length (p .groups)) r h few (f .roles r m))))
+    (small-each lineOfGroup (p .groups) (each-of (GroupForm (p .roles)) _ (group-small (p .roles)) 1 (p .groups) (f .groups)))
+
+count-small : (n : ℕ) → n ≤ 999999 → Under 999999 (n ∷ [])
+count-small n h = under-cons h (under-nil 999999)
+
+module _ (d : Diagram) (w : WellFormed d) where
+  table-small : Under 999999 (table d)
+  unfolding table lines lineOfCount values
+  table-small =
+      let few : length (d .types) ≤ 999999 = omega (arith, w .typeCount .1) in
+      small-append _ _
+      (small-append _ _
+      (small-cons _ _ (count-small 1 (omega arith)) (small-cons _ _ (count-small (length (d .types)) few) (types-small 1 (d .types) (omega (arith, w .typeCount .1)) (w .types))))
+      (small-cons _ _ (count-small (length (d .preds)) (omega (arith, w .predCount .1))) (small-flat linesOfPred (d .preds) (λ p m. pred-small (length (d .types)) p few (w .preds p m)))))
+      (small-cons _ _ (count-small (length (allRoles d)) (omega (arith, w .roleCount))) small-nil)
+
+-- Every accepted table is valid
+pub accepted-valid : (t : List ℕ) (d : Diagram) → diagramIn tableLine t ≡ accepted d → Valid t
+accepted-valid t d e =
+    let a = table-accepted-iff t d .0 e in
+    let same-d : diagramOf t ≡ d = ap diagramOf (a .0) ∙ table-back d in
+    record { reads = rw same-d e; formed = rw same-d (a .1) }
+
+pub valid-walkable : {t : List ℕ} → Valid t → Walkable t
+unfolding diagramOf
+valid-walkable {t} v =
+    let types : length (diagramOf t .types) ≡ typeCount t = each-length typeOf 6 (typeCount t) (drop 2 t) in
+    let preds : length (diagramOf t .preds) ≡ predCount t = preds-length (predCount t) (drop (firstPredAt t) t) in
+    record {
+      small = subst⁻¹ (Under 999999) (table-accepted-iff t (diagramOf t) .0 (v .reads) .0) (table-small (diagramOf t) (v .formed)) .at;
+      few-types = omega (arith, types, v .formed .typeCount .1);
+      few-preds = omega (arith, preds, v .formed .predCount .1);
+    }

@@ -1,0 +1,124 @@
+-- The laws of a walk: `n` lines, or `n` predicates, from a position on are the one that stands there and those from the next position on.
+-- A loop counts `n` down, so it ends where none is left.
+use Prim.Native.Nat.{ℕ, zero, suc, _+_, _*_, _-_, _≤_, _<_}
+use native.Mathlib.Omega.{arith}
+use mathlib.Core.Path.{_≡_, refl, sym, ap, ap₂, _∙_}
+use mathlib.Core.List.{List, [], _∷_, _++_, flatMap}
+use lib.ListN.{length, getD, drop, length-append, length-drop, List·getD-eq-default}
+use lib.Seq.{drop-drop, getD-drop}
+use Rattle.orm.specs.Diagram.{Predicate, allRoles, allGroups}
+use Rattle.table.specs.Positions.{each, predOf, predLength, predsIn, typeCount, predCount, firstPredAt, diagramOf, Walkable}
+
+-- ---- one number
+
+module _ (t : List ℕ) (at i : ℕ) where
+  pub field-here : getD t (at + i) 0 ≡ getD (drop at t) i 0
+  field-here = sym (getD-drop at t i 0)
+
+  pub field-past : length t ≤ at → 0 ≡ getD (drop at t) i 0
+  field-past h = let k : length (drop at t) ≤ i = simp length-drop (omega arith) in sym (List·getD-eq-default (drop at t) 0 k)
+
+  pub field-behind : length t - at ≤ i → 0 ≡ getD (drop at t) i 0
+  field-behind h = let k : length (drop at t) ≤ i = simp length-drop (omega arith) in sym (List·getD-eq-default (drop at t) 0 k)
+
+pub field-small : (t : List ℕ) (k : ℕ) → Walkable t → getD t k 0 ≤ 999999
+field-small t k w = w .small k
+
+-- the number of predicates stands behind the types; `n` is their number, and `i` the same as an index
+pub pred-count-is : (t : List ℕ) {n i r : ℕ} → n ≡ typeCount t → i ≡ n → r ≡ getD (drop (2 + 6 * i) t) 0 0 → r ≡ predCount t
+pred-count-is t en ei er = er ∙ ap (λ (m : ℕ). getD (drop (2 + 6 * m) t) 0 0) (ei ∙ en)
+
+pub pred-count-few : (t : List ℕ) {r : ℕ} → Walkable t → r ≡ predCount t → r ≤ 32
+pred-count-few t w e = rw e (w .few-preds)
+
+-- ---- lines
+
+module _ {A : Type 0} (make : List ℕ → A) (k : ℕ) where
+  pub each-more : (t : List ℕ) (at n : ℕ) → 0 < n → each make k n (drop at t) ≡ make (drop at t) ∷ each make k (n - 1) (drop (at + k) t)
+  unfolding each
+  each-more t at zero h = absurd (omega arith)
+  each-more t at (suc n) h =
+      let e : n ≡ suc n - 1 = omega arith in
+      ap₂ {C = List A} (λ m s. make (drop at t) ∷ each make k m s) e (drop-drop k at t)
+
+  pub each-none : (n : ℕ) (s : List ℕ) → n ≤ 0 → each make k n s ≡ []
+  unfolding each
+  each-none zero s h = refl
+  each-none (suc n) s h = absurd (omega arith)
+
+  pub each-length : (n : ℕ) (s : List ℕ) → length (each make k n s) ≡ n
+  unfolding each
+  each-length zero s = refl
+  each-length (suc n) s = ap suc (each-length n (drop k s))
+
+-- ---- predicates; `e` is where the next one starts
+
+pub preds-more : (t : List ℕ) (at n : ℕ) {e : ℕ} → 0 < n → e ≡ at + predLength (drop at t)
+    → predsIn n (drop at t) ≡ predOf (drop at t) ∷ predsIn (n - 1) (drop e t)
+unfolding predsIn
+preds-more t at zero h q = absurd (omega arith)
+preds-more t at (suc n) h q =
+    let e : n ≡ suc n - 1 = omega arith in
+    ap₂ {C = List Predicate} (λ m s. predOf (drop at t) ∷ predsIn m s) e (drop-drop (predLength (drop at t)) at t
+    ∙ ap (λ (m : ℕ). drop m t) (sym q))
+
+pub preds-none : (n : ℕ) (s : List ℕ) → n ≤ 0 → predsIn n s ≡ []
+unfolding predsIn
+preds-none zero s h = refl
+preds-none (suc n) s h = absurd (omega arith)
+
+pub preds-length : (n : ℕ) (s : List ℕ) → length (predsIn n s) ≡ n
+unfolding predsIn
+preds-length zero s = refl
+preds-length (suc n) s = ap suc (preds-length n (drop (predLength s) s))
+
+-- ---- the number of roles, and of groups: those counted and those left come to the whole
+
+-- the items of the predicates, `f` is `roles` or `groups` and `c` their number
+module _ {A : Type 0} (f : Predicate → List A) (i : ℕ) (counted : (s : List ℕ) → length (f (predOf s)) ≡ getD s i 0) where
+  count-more : (t : List ℕ) (at n m total : ℕ) {e r : ℕ} → m + length (flatMap f (predsIn n (drop at t))) ≡ total → 0 < n
+      → e ≡ at + predLength (drop at t) → r ≡ getD (drop at t) i 0 → (m + r) + length (flatMap f (predsIn (n - 1) (drop e t))) ≡ total
+  unfolding flatMap
+  count-more t at n m total {e} {r} w h q p =
+      let rest : List A = flatMap f (predsIn (n - 1) (drop e t)) in
+      let split : length (flatMap f (predsIn n (drop at t))) ≡ length (f (predOf (drop at t)) ++ rest) =
+      ap (λ (ps : List Predicate). length (flatMap f ps)) (preds-more t at n h q) in
+      omega (arith, split, length-append (f (predOf (drop at t))) rest, counted (drop at t), p, w)
+
+  count-all : (s : List ℕ) (n m total : ℕ) → m + length (flatMap f (predsIn n s)) ≡ total → n ≤ 0 → m ≡ total
+  unfolding flatMap
+  count-all s n m total w h = let none : length (flatMap f (predsIn n s)) ≡ 0 = ap (λ (ps : List Predicate). length (flatMap f ps)) (preds-none n s h) in omega (arith, none, w)
+
+abbrev pub RolesLeft : List ℕ → ℕ → ℕ → ℕ → Type 0
+RolesLeft t at n m = m + length (flatMap (λ (p : Predicate). p .roles) (predsIn n (drop at t))) ≡ length (allRoles (diagramOf t))
+
+abbrev pub GroupsLeft : List ℕ → ℕ → ℕ → ℕ → Type 0
+GroupsLeft t at n m = m + length (flatMap (λ (p : Predicate). p .groups) (predsIn n (drop at t))) ≡ length (allGroups (diagramOf t))
+
+module _ (t : List ℕ) {at n : ℕ} where
+  pub roles-start : at ≡ firstPredAt t → n ≡ predCount t → RolesLeft t at n 0
+  unfolding allRoles diagramOf
+  roles-start ea en = rw (ea, en) (omega arith)
+
+  pub groups-start : at ≡ firstPredAt t → n ≡ predCount t → GroupsLeft t at n 0
+  unfolding allGroups diagramOf
+  groups-start ea en = rw (ea, en) (omega arith)
+
+module _ (t : List ℕ) (at n m : ℕ) where
+  pub roles-all : RolesLeft t at n m → n ≤ 0 → m ≡ length (allRoles (diagramOf t))
+  roles-all =
+      count-all (λ (p : Predicate). p .roles) 2 (λ s. each-length _ 3 (getD s 2 0) (drop 4 s)) (drop at t) n m (length (allRoles (diagramOf t)))
+
+  pub groups-all : GroupsLeft t at n m → n ≤ 0 → m ≡ length (allGroups (diagramOf t))
+  groups-all =
+      count-all (λ (p : Predicate). p .groups) 3 (λ s. each-length _ 2 (getD s 3 0) (drop (4 + 3 * getD s 2 0) s)) (drop at t) n m (length (allGroups (diagramOf t)))
+
+  module _ {e r : ℕ} where
+    pub roles-more : RolesLeft t at n m → 0 < n → e ≡ at + predLength (drop at t) → r ≡ getD (drop at t) 2 0 → RolesLeft t e (n - 1) (m + r)
+    roles-more =
+        count-more (λ (p : Predicate). p .roles) 2 (λ s. each-length _ 3 (getD s 2 0) (drop 4 s)) t at n m (length (allRoles (diagramOf t)))
+
+    pub groups-more : GroupsLeft t at n m → 0 < n → e ≡ at + predLength (drop at t) → r ≡ getD (drop at t) 3 0
+        → GroupsLeft t e (n - 1) (m + r)
+    groups-more =
+        count-more (λ (p : Predicate). p .groups) 3 (λ s. each-length _ 2 (getD s 3 0) (drop (4 + 3 * getD s 2 0) s)) t at n m (length (allGroups (diagramOf t)))

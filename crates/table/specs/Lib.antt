@@ -1,0 +1,4 @@
+pub mod Positions
+pub mod Cursors
+pub mod Valid
+pub mod Laws

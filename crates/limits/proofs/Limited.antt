@@ -19,7 +19,7 @@ use Rattle.buffer.specs.Laws.{wrote-then, wrote-as, wrote-none}
 use Rattle.table.specs.Laws.Walks.{each-length}
 use Rattle.table.specs.Cursors.{placedAt}
 use Rattle.table.specs.declared.Cursor.{Cursor}
-use Rattle.limits.specs.Selected.{limitOfGroup}
+use Rattle.limits.specs.Single.{limitOfGroup}
 
 module _ {o o₁ : List ℕ} {at a : ℕ} where
   pub at-most-is : (s most : ℕ) → Wrote o at (0 ∷ s ∷ 0 ∷ 1 ∷ most ∷ []) o₁ a → Wrote o at (encode (atMost s most ∷ [])) o₁ a

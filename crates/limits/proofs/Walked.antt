@@ -22,8 +22,9 @@ use Rattle.table.specs.Laws.Walks.{each-more, each-none, each-length, preds-mor
 use Rattle.table.specs.Cursors.{placedAt, placedLeft, firstCursor, nextCursor}
 use Rattle.table.specs.Laws.Cursors.{placed-start, placed-more, placed-none}
 use Rattle.table.specs.declared.Cursor.{Cursor}
-use Rattle.limits.specs.Selected.{has, limitOfPlayed}
-use Rattle.limits.proofs.Selects.{select-append, select-length}
+use Rattle.selection.specs.Selected.{has}
+use Rattle.limits.specs.Single.{limitOfPlayed}
+use Rattle.selection.specs.Laws.Selects.{select-append, select-length}
 use Rattle.lowering.specs.Laws.Decoding.{encode-append}
 
 -- ---- the limits of each line, numbered from `i`

@@ -1,2 +1,2 @@
-pub mod Selected
+pub mod Single
 pub mod Laws

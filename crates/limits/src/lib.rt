@@ -15,7 +15,7 @@ ghost use Rattle.lowering.specs.Encoding.{encode};
 ghost use Rattle.buffer.specs.Written.{Wrote};
 ghost use Rattle.table.specs.Positions.{rolesIn, diagramOf, Walkable};
 ghost use Rattle.table.specs.Cursors.{placedAt, Reach};
-ghost use Rattle.limits.specs.Selected.{when, has, Bounded, limitOfGroup, limitOfPlayed};
+ghost use Rattle.limits.specs.Single.{limitOfGroup, limitOfPlayed};
 
 // How many values first..last are; at least 1.
 fn values(first: u32, last: u32) -> u32
@@ -123,131 +123,6 @@ pub fn write_upper(t: &[u32], out: &mut [u32]) -> usize
     buffer::fill(out, c, table::group_count(t), 4096)
 }
 
-// ---- single numbers
-
-fn same(a: u32, b: u32) -> bool
-    ensures { λ r. ⌜ r ≡ eqb a b ⌝ }
-{
-    a == b
-}
-
-fn differ(a: u32, b: u32) -> bool
-    ensures { λ r. ⌜ r ≡ not (eqb a b) ⌝ }
-{
-    a != b
-}
-
-// The index of a number that counts from 1.
-fn less_one(x: u32) -> u32
-    ensures { λ r. ⌜ r ≡ x - 1 ⌝ }
-    ensures { λ r. ⌜ r ≤ x ⌝ }
-{
-    if x == 0 { 0 } else { x - 1 }
-}
-
-fn push_if(out: &mut [u32], at: usize, yes: bool, x: u32) -> usize
-    ensures { λ r. ⌜ Wrote (now (out .entry)) at (when yes x) (now (out .exit)) r ⌝ }
-{
-    if yes { buffer::push(out, at, x) } else { at }
-}
-
-fn add_if(n: u32, yes: bool) -> u32
-    requires { ⌜ n ≤ 100000000 ⌝ }
-    ensures { λ r. ⌜ r ≡ n + length (when yes 0) ⌝ }
-    ensures { λ r. ⌜ r ≤ n + 1 ⌝ }
-{
-    if yes { n + 1 } else { n }
-}
-
-// `count` consecutive numbers.
-fn push_up(out: &mut [u32], at: usize, first: u32, count: u32) -> usize
-    requires { ⌜ first + count ≤ 300000000 ⌝ }
-    ensures { λ r. ⌜ Wrote (now (out .entry)) at (upFrom first count) (now (out .exit)) r ⌝ }
-{
-    let mut left = count;
-    let mut x = first;
-    let mut to = at;
-    while 0 < left {
-        to = buffer::push(out, to, x);
-        x += 1;
-        left -= 1;
-    }
-    to
-}
-
-// ---- roles that have a number at a place of their lines
-
-// The sets of those among the `count` roles from position q on; `first` is the first role's set.
-fn push_roles(
-    t: &[u32],
-    q: usize,
-    count: u32,
-    first: u32,
-    i: usize,
-    number: u32,
-    out: &mut [u32],
-    at: usize,
-) -> usize
-    requires { ⌜ Walkable (now t) ⌝ }
-    requires { ⌜ Bounded q count first i ⌝ }
-    ensures { λ r.
-        ⌜ Wrote (now (out .entry)) at (select (has i number) first (rolesIn count (drop q (now (t .entry))))) (now (out .exit)) r ⌝ }
-{
-    let mut left = count;
-    let mut p = q;
-    let mut set = first;
-    let mut to = at;
-    while 0 < left {
-        let yes = same(table::field(t, p, i), number);
-        to = push_if(out, to, yes, set);
-        p += 3;
-        set += 1;
-        left -= 1;
-    }
-    to
-}
-
-// How many they are.
-fn count_roles(t: &[u32], q: usize, count: u32, i: usize, number: u32) -> u32
-    requires { ⌜ Walkable (now t) ⌝ }
-    requires { ⌜ Bounded q count 0 i ⌝ }
-    ensures { λ r. ⌜ r ≡ length (select (has i number) 0 (rolesIn count (drop q (now (t .entry))))) ⌝ }
-    ensures { λ r. ⌜ r ≤ count ⌝ }
-{
-    let mut left = count;
-    let mut p = q;
-    let mut n: u32 = 0;
-    while 0 < left {
-        let yes = same(table::field(t, p, i), number);
-        n = add_if(n, yes);
-        p += 3;
-        left -= 1;
-    }
-    n
-}
-
-// The sets of the roles in the predicate's group with this number; 0: in no group.
-fn push_in_group(t: &[u32], x: table::Cursor, number: u32, out: &mut [u32], at: usize) -> usize
-    requires { ⌜ Walkable (now t) ⌝ }
-    requires { ⌜ Reach x 1 ⌝ }
-    ensures { λ r. ⌜ Wrote (now (out .entry)) at (groupRoles (placedAt (now (t .entry)) x) number) (now (out .exit)) r ⌝ }
-{
-    let q = x.at + 4;
-    let count = table::field(t, x.at, 2);
-    push_roles(t, q, count, x.roles, 2, number, out, at)
-}
-
-fn count_in_group(t: &[u32], x: table::Cursor, number: u32) -> u32
-    requires { ⌜ Walkable (now t) ⌝ }
-    requires { ⌜ Reach x 1 ⌝ }
-    ensures { λ r. ⌜ r ≡ length (groupRoles (placedAt (now (t .entry)) x) number) ⌝ }
-    ensures { λ r. ⌜ r ≤ 999999 ⌝ }
-{
-    let q = x.at + 4;
-    let count = table::field(t, x.at, 2);
-    count_roles(t, q, count, 2, number)
-}
-
 // ---- limits, as rounds::run reads them: kind, target, factor, number of operands, operands
 
 fn header(out: &mut [u32], at: usize, kind: u32, target: u32, factor: u32, count: u32) -> usize
@@ -289,7 +164,7 @@ fn group_set(x: table::Cursor, number: u32) -> u32
     requires { ⌜ number ≤ 999999 ⌝ }
     ensures { λ r. ⌜ r ≡ x .groups + (number - 1) ⌝ }
 {
-    x.groups + less_one(number)
+    x.groups + selection::less_one(number)
 }
 
 // The limits of the role at position q, whose set is p.
@@ -300,12 +175,12 @@ fn push_role(t: &[u32], x: table::Cursor, p: u32, q: usize, out: &mut [u32], at:
         ⌜ Wrote (now (out .entry)) at (encode (limitsOfRole (placedAt (now (t .entry)) x) p (roleOf (drop q (now (t .entry))))))
         (now (out .exit)) r ⌝ }
 {
-    let a = less_one(table::field(t, q, 0));
+    let a = selection::less_one(table::field(t, q, 0));
     let group = table::field(t, q, 2);
     let b = push_at_most(out, at, p, a);
     let c = push_at_most(out, b, p, x.own);
-    let d = push_at_most_if(out, c, differ(group, 0), p, group_set(x, group));
-    push_at_most_if(out, d, same(table::field(t, q, 1), 1), a, p)
+    let d = push_at_most_if(out, c, selection::differ(group, 0), p, group_set(x, group));
+    push_at_most_if(out, d, selection::same(table::field(t, q, 1), 1), a, p)
 }
 
 // The product of the roles in a group, as the group's limit.
@@ -321,9 +196,9 @@ fn push_product(t: &[u32], x: table::Cursor, number: u32, out: &mut [u32], at: u
         0,
         group_set(x, number),
         0,
-        count_in_group(t, x, number),
+        selection::count_in_group(t, x, number),
     );
-    push_in_group(t, x, number, out, a)
+    selection::push_in_group(t, x, number, out, a)
 }
 
 // The limits of the group with this number, whose line is at position q.
@@ -355,9 +230,16 @@ fn push_rows(t: &[u32], x: table::Cursor, out: &mut [u32], at: usize) -> usize
     ensures { λ r. ⌜ Wrote (now (out .entry)) at (encode (limitOfRows (placedAt (now (t .entry)) x) ∷ [])) (now (out .exit)) r ⌝ }
 {
     let groups = table::field(t, x.at, 3);
-    let a = header(out, at, 0, x.own, 0, groups + count_in_group(t, x, 0));
-    let b = push_up(out, a, x.groups, groups);
-    push_in_group(t, x, 0, out, b)
+    let a = header(
+        out,
+        at,
+        0,
+        x.own,
+        0,
+        groups + selection::count_in_group(t, x, 0),
+    );
+    let b = selection::push_up(out, a, x.groups, groups);
+    selection::push_in_group(t, x, 0, out, b)
 }
 
 // ---- all limits
@@ -441,7 +323,7 @@ fn push_played(t: &[u32], number: u32, out: &mut [u32], at: usize) -> usize
     let mut to = at;
     while 0 < left {
         let count = table::field(t, x.at, 2);
-        to = push_roles(t, x.at + 4, count, x.roles, 0, number, out, to);
+        to = selection::push_roles(t, x.at + 4, count, x.roles, 0, number, out, to);
         x = table::next_cursor(t, x);
         left -= 1;
     }
@@ -457,7 +339,7 @@ fn count_played(t: &[u32], number: u32) -> u32
     let mut n: u32 = 0;
     while 0 < left {
         let count = table::field(t, q, 2);
-        n += count_roles(t, q + 4, count, 0, number);
+        n += selection::count_roles(t, q + 4, count, 0, number);
         q = table::pred_end(t, q);
         left -= 1;
     }
@@ -493,8 +375,14 @@ fn push_type(t: &[u32], a: u32, q: usize, out: &mut [u32], at: usize) -> usize
         (now (out .exit)) r ⌝ }
 {
     let super_type = table::field(t, q, 4);
-    let b = push_at_most_if(out, at, differ(super_type, 0), a, less_one(super_type));
-    push_sum_if(t, differ(table::field(t, q, 5), 1), a, out, b)
+    let b = push_at_most_if(
+        out,
+        at,
+        selection::differ(super_type, 0),
+        a,
+        selection::less_one(super_type),
+    );
+    push_sum_if(t, selection::differ(table::field(t, q, 5), 1), a, out, b)
 }
 
 fn push_types(t: &[u32], out: &mut [u32], at: usize) -> usize

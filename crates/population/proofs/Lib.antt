@@ -1,0 +1,9 @@
+pub mod Types
+pub mod Roles
+pub mod Columns
+pub mod Parts
+pub mod Planning
+pub mod Rows
+pub mod RowLaws
+pub mod Preds
+pub mod Counts

@@ -1,0 +1,200 @@
+-- The parts of a predicate as lists of numbers, and how long these are.
+use Prim.Native.Nat.{ℕ, zero, suc, _+_, _*_, _-_, _≤_, _<_}
+use native.Mathlib.Numerals.{add-one}
+use native.Mathlib.Nat.{add-zero}
+use native.Mathlib.Omega.{arith}
+use mathlib.Core.Path.{_≡_, refl, sym, ap, ap₂, _∙_}
+use mathlib.Core.Bool.{Bool, true, false}
+use mathlib.Core.List.{List, [], _∷_, _++_, map, map-append, map-map, map-id, flatMap}
+use lib.Dec.{eqb}
+use lib.ListN.{length, getD, drop, take, replicate, length-append, length-map, drop-of-length-le}
+use lib.Seq.{drop-cons, length-take-le}
+use Rattle.counting.specs.Lists.{upFrom}
+use Rattle.counting.specs.Laws.Range.{length-upFrom}
+use Rattle.counting.specs.Laws.Maps.{flatMap-append, flatMap-map, flatMap-single}
+use Rattle.orm.specs.Diagram.{Role, Frequency}
+use Rattle.orm.specs.Form.{groupOf, roleOf}
+use Rattle.orm.specs.Sets.{Placed, Part, parts, groupPart, rolePart, groupSet, groupRoles, rolesInGroup, select}
+use Rattle.orm.specs.Populate.{size}
+use Rattle.buffer.specs.Written.{Wrote, Writing, Splits}
+use Rattle.buffer.specs.Laws.{wrote-then, wrote-as, wrote-front, wrote-within, writing-start}
+use Rattle.table.specs.Laws.Walks.{each-length}
+use Rattle.table.specs.Cursors.{placedAt}
+use Rattle.table.specs.Valid.{Under}
+use Rattle.table.specs.Laws.Valid.{under-nil, under-cons, under-append}
+use Rattle.table.specs.declared.Cursor.{Cursor}
+use Rattle.population.specs.Plan.{order, counts, groupCounts, owns, sizesOf, Few}
+
+-- ---- group by group
+
+module _ (x : Placed) (a n : ℕ) where
+  abbrev pub grouped : List ℕ
+  grouped = flatMap (groupRoles x) (upFrom a n)
+
+module _ (x : Placed) where
+  pub grouped-more : (a n : ℕ) → 0 < n → Splits (grouped x a n) (groupRoles x a) (grouped x (a + 1) (n - 1))
+  unfolding upFrom flatMap
+  grouped-more a zero h = absurd (omega arith)
+  grouped-more a (suc n) h = let e : suc n - 1 ≡ n = omega arith in record { is = rw (e, add-one) }
+
+  pub grouped-none : (a n : ℕ) → n ≤ 0 → grouped x a n ≡ []
+  unfolding upFrom flatMap
+  grouped-none a zero h = refl
+  grouped-none a (suc n) h = absurd (omega arith)
+
+  pub group-counts-more : (a n : ℕ) {k : ℕ} → 0 < n → k ≡ length (groupRoles x a) → Splits (groupCounts x (upFrom a n)) (k ∷ []) (groupCounts x (upFrom (a + 1) (n - 1)))
+  unfolding upFrom
+  group-counts-more a zero h ek = absurd (omega arith)
+  group-counts-more a (suc n) h ek = let e : suc n - 1 ≡ n = omega arith in record { is = rw (e, add-one, ek) }
+
+  pub group-counts-none : (a n : ℕ) → n ≤ 0 → groupCounts x (upFrom a n) ≡ []
+  unfolding upFrom
+  group-counts-none a zero h = refl
+  group-counts-none a (suc n) h = absurd (omega arith)
+
+pub grouped-start : (t : List ℕ) (x : Cursor) (o : List ℕ) (at : ℕ) {n : ℕ} → n ≡ getD (drop (x .at) t) 3 0
+    → Writing o at (grouped (placedAt t x) 1 (getD (drop (x .at) t) 3 0)) o at (grouped (placedAt t x) 1 n)
+grouped-start t x o at e = rw e (writing-start o at (grouped (placedAt t x) 1 (getD (drop (x .at) t) 3 0)))
+
+pub group-counts-start : (t : List ℕ) (x : Cursor) (o : List ℕ) (at : ℕ) {n : ℕ} → n ≡ getD (drop (x .at) t) 3 0
+    → Writing o at (groupCounts (placedAt t x) (upFrom 1 (getD (drop (x .at) t) 3 0))) o at (groupCounts (placedAt t x) (upFrom 1 n))
+group-counts-start t x o at e = rw e (writing-start o at (groupCounts (placedAt t x) (upFrom 1 (getD (drop (x .at) t) 3 0))))
+
+-- ---- all parts
+
+ones : (ps : List ℕ) → map {B = ℕ} (λ (p : ℕ). 1) ps ≡ replicate (length ps) 1
+ones [] = refl
+ones (p ∷ ps) = ap {B = List ℕ} (λ l. 1 ∷ l) (ones ps)
+
+up-sets : (b a n : ℕ) → map (λ (g : ℕ). b + (g - 1)) (upFrom (suc a) n) ≡ upFrom (b + a) n
+unfolding upFrom
+up-sets b a zero = refl
+up-sets b a (suc n) =
+    let e : suc a - 1 ≡ a = omega arith in
+    let e′ : b + suc a ≡ suc (b + a) = omega arith in
+    ap₂ {C = List ℕ} (λ y ys. y ∷ ys) (ap (λ (m : ℕ). b + m) e) (up-sets b (suc a) n ∙ ap (λ (m : ℕ). upFrom m n) e′)
+
+module _ (x : Placed) where
+  abbrev groupCount : ℕ
+  groupCount = length (x .predicate .groups)
+
+  order-parts : order x ≡ grouped x 1 groupCount ++ groupRoles x 0
+  unfolding order parts groupPart rolePart
+  order-parts = simp (flatMap-append, flatMap-map) (ap (λ (l : List ℕ). grouped x 1 groupCount ++ l) (flatMap-single (groupRoles x 0)))
+
+  counts-parts : counts x ≡ groupCounts x (upFrom 1 groupCount) ++ replicate (length (groupRoles x 0)) 1
+  unfolding counts parts groupPart rolePart
+  counts-parts = simp (map-append, map-map) (ap (λ (l : List ℕ). groupCounts x (upFrom 1 groupCount) ++ l) (ones (groupRoles x 0)))
+
+  own-parts : map (λ (b : Part). b .own) (parts x) ≡ upFrom (x .groups) groupCount ++ groupRoles x 0
+  unfolding parts groupPart rolePart groupSet
+  own-parts =
+      simp (map-append, map-map)
+      (ap₂ {C = List ℕ} (λ y z. y ++ z) (up-sets (x .groups) 0 groupCount ∙ ap (λ (m : ℕ). upFrom m groupCount) (add-zero (x .groups))) (map-id (groupRoles x 0)))
+
+  pub parts-length : length (parts x) ≡ groupCount + length (groupRoles x 0)
+  unfolding parts
+  parts-length =
+      length-append (map (groupPart x) (upFrom 1 groupCount)) (map rolePart (groupRoles x 0))
+      ∙ ap₂ {C = ℕ} (λ m n. m + n) (length-map (upFrom 1 groupCount) (groupPart x) ∙ length-upFrom 1 groupCount) (length-map (groupRoles x 0) rolePart)
+
+-- how long they are
+select-few : (test : Role → Bool) (i : ℕ) (rs : List Role) → length (select test i rs) ≤ length rs
+unfolding select
+select-few test i [] = omega arith
+select-few test i (r ∷ rs) = go (test r) (select-few test (suc i) rs)
+  where
+    go : (b : Bool) → length (select test (suc i) rs) ≤ length rs → length {A = ℕ} (elim b as (λ _. List ℕ) [ true ↦ i ∷ select test (suc i) rs | false ↦ select test (suc i) rs ]) ≤ suc (length rs)
+    go true h = omega arith
+    go false h = omega arith
+
+under-map : (f : ℕ → ℕ) (xs : List ℕ) → ((a : ℕ) → f a ≤ 6) → Under 6 (map f xs)
+under-map f [] h = under-nil 6
+under-map f (x ∷ xs) h = under-cons (h x) (under-map f xs h)
+
+module _ (t : List ℕ) (x : Cursor) where
+  pub group-count : length (placedAt t x .predicate .groups) ≡ getD (drop (x .at) t) 3 0
+  unfolding placedAt
+  group-count = each-length groupOf 2 (getD (drop (x .at) t) 3 0) (drop (4 + 3 * getD (drop (x .at) t) 2 0) (drop (x .at) t))
+
+  pub role-count : length (placedAt t x .predicate .roles) ≡ getD (drop (x .at) t) 2 0
+  unfolding placedAt
+  role-count = each-length roleOf 3 (getD (drop (x .at) t) 2 0) (drop 4 (drop (x .at) t))
+
+  group-few : (g : ℕ) → Few t x → length (groupRoles (placedAt t x) g) ≤ 6
+  unfolding groupRoles rolesInGroup
+  group-few g f = omega (arith, select-few (λ (r : Role). eqb (r .group) g) (placedAt t x .roles) (placedAt t x .predicate .roles), role-count, f .roles)
+
+  grouped-few : (a n : ℕ) → Few t x → length (grouped (placedAt t x) a n) ≤ 6 * n
+  unfolding upFrom flatMap
+  grouped-few a zero f = omega arith
+  grouped-few a (suc n) f = omega (arith, length-append (groupRoles (placedAt t x) a) (grouped (placedAt t x) (suc a) n), group-few a f, grouped-few (suc a) n f)
+
+  pub order-few : Few t x → length (order (placedAt t x)) ≤ 42
+  order-few f =
+      let long : length (order (placedAt t x)) ≡ length (grouped (placedAt t x) 1 (groupCount (placedAt t x))) + length (groupRoles (placedAt t x) 0) = ap length (order-parts (placedAt t x)) ∙ length-append (grouped (placedAt t x) 1 (groupCount (placedAt t x))) (groupRoles (placedAt t x) 0) in
+      omega (arith, long, grouped-few 1 (groupCount (placedAt t x)) f, group-few 0 f, group-count, f .groups)
+
+  pub parts-few : Few t x → length (parts (placedAt t x)) ≤ 12
+  parts-few f =
+      omega (arith, parts-length (placedAt t x), group-few 0 f, group-count, f .groups)
+
+  pub counts-few : Few t x → length (counts (placedAt t x)) ≤ 12
+  unfolding counts
+  counts-few f = rw length-map (parts-few f)
+
+  pub counted-small : Few t x → Under 6 (counts (placedAt t x))
+  counted-small f =
+      rw (counts-parts (placedAt t x), ← ones (groupRoles (placedAt t x) 0))
+      (under-append (groupCounts (placedAt t x) (upFrom 1 (groupCount (placedAt t x)))) (map {B = ℕ} (λ (p : ℕ). 1) (groupRoles (placedAt t x) 0))
+      (under-map (λ (g : ℕ). length (groupRoles (placedAt t x) g)) (upFrom 1 (groupCount (placedAt t x))) (λ g. group-few g f))
+      (under-map (λ (p : ℕ). 1) (groupRoles (placedAt t x) 0) (λ p. omega arith)))
+
+  -- ---- what is written
+
+  pub order-is : {o o₁ o₂ : List ℕ} {at a b : ℕ} → Wrote o at (grouped (placedAt t x) 1 (getD (drop (x .at) t) 3 0)) o₁ a → Wrote o₁ a (groupRoles (placedAt t x) 0) o₂ b
+      → Wrote o at (order (placedAt t x)) o₂ b
+  order-is w v = wrote-as (wrote-then w v) (rw (← group-count) (sym (order-parts (placedAt t x))))
+
+  pub counts-is : {n : ℕ} {o o₁ o₂ : List ℕ} {at a b : ℕ} → n ≡ length (groupRoles (placedAt t x) 0) → Wrote o at (groupCounts (placedAt t x) (upFrom 1 (getD (drop (x .at) t) 3 0))) o₁ a
+      → Wrote o₁ a (replicate n 1) o₂ b → Wrote o at (counts (placedAt t x)) o₂ b
+  counts-is en w v = wrote-as (wrote-then w v) (rw (en, ← group-count) (sym (counts-parts (placedAt t x))))
+
+  pub parts-is : {n : ℕ} {o o₁ o₂ : List ℕ} {at a b : ℕ} → n ≡ getD (drop (x .at) t) 3 0 → Wrote o at (upFrom (x .groups) n) o₁ a → Wrote o₁ a (groupRoles (placedAt t x) 0) o₂ b
+      → Wrote o at (map (λ (b : Part). b .own) (parts (placedAt t x))) o₂ b
+  unfolding placedAt
+  parts-is en w v = wrote-as (wrote-then w v) (ap (λ (m : ℕ). upFrom (x .groups) m ++ groupRoles (placedAt t x) 0) (en ∙ sym group-count) ∙ sym (own-parts (placedAt t x)))
+
+-- ---- the sizes of some sets
+
+pub sizes-more : (c sets : List ℕ) (i : ℕ) {n : ℕ} → i < length sets → n ≡ getD c (getD sets i 0) 0 → Splits (sizesOf c (drop i sets)) (n ∷ []) (sizesOf c (drop (i + 1) sets))
+sizes-more c sets i h en = record { is = ap (sizesOf c) (drop-cons sets i 0 h) ∙ rw (en, add-one) }
+
+pub sizes-none : (c sets : List ℕ) (i : ℕ) → length sets ≤ i → sizesOf c (drop i sets) ≡ []
+sizes-none c sets i h = ap (sizesOf c) (drop-of-length-le sets h)
+
+-- those of the parts, and of their roles; the sets stand at the front of `s′`
+module _ (t c : List ℕ) (x : Cursor) (f : Few t x) {s s′ : List ℕ} {n : ℕ} where
+  module _ (room : length s ≡ 12) (w : Wrote s 0 (map (λ (b : Part). b .own) (parts (placedAt t x))) s′ n) where
+    fits : length (map (λ (b : Part). b .own) (parts (placedAt t x))) ≤ length s
+    fits = rw length-map (omega (arith, parts-few t x f, room))
+
+    pub parts-within : n ≤ length s′
+    parts-within = wrote-within w fits
+
+    pub part-sizes-is : {o o′ : List ℕ} {at to : ℕ} → Wrote o at (sizesOf c (take n s′)) o′ to → Wrote o at (owns c (placedAt t x)) o′ to
+    unfolding owns
+    part-sizes-is v = wrote-as v (ap (sizesOf c) (wrote-front w fits) ∙ map-map (size c) (λ (b : Part). b .own) (parts (placedAt t x)))
+
+  module _ (room : length s ≡ 42) (w : Wrote s 0 (order (placedAt t x)) s′ n) where
+    roles-fit : length (order (placedAt t x)) ≤ length s
+    roles-fit = omega (arith, order-few t x f, room)
+
+    pub roles-within : n ≤ length s′
+    roles-within = wrote-within w roles-fit
+
+    pub role-sizes-is : {o o′ : List ℕ} {at to : ℕ} → Wrote o at (sizesOf c (take n s′)) o′ to → Wrote o at (sizesOf c (order (placedAt t x))) o′ to
+    role-sizes-is v = wrote-as v (ap (sizesOf c) (wrote-front w roles-fit))
+
+pub front-count : (l : List ℕ) (m : ℕ) → m ≤ length l → m ≡ length (take m l)
+front-count l m h = sym (length-take-le m l h)

@@ -1,0 +1,13 @@
+-- `population::column_item` meets its contract. Every number of a column is small.
+-- Assumes nothing.
+use Rattle.population.proofs.Rows.{column-small}
+use borrow.Author.Needs.{needs}
+use Rattle.population.proofs.column_item.Statement.{statement}
+use Rattle.population.proofs.column_item.Tie as tie
+
+pub column-item-spec : {M : Type 1} → statement M
+column-item-spec =
+    tie.close
+    (tie.spec
+    (λ c κs. search needs)
+    (λ c. search (needs, column-small)))

@@ -1,0 +1,18 @@
+-- `population::push_places` meets its contract. One after the other.
+-- Assumes nothing.
+use Rattle.population.proofs.Columns.{places-is}
+use borrow.Author.Needs.{needs}
+use Rattle.population.proofs.push_places.Statement.{statement}
+use Rattle.population.proofs.push_places.Tie as tie
+
+pub push-places-spec : {M : Type 1} → statement M
+push-places-spec =
+    tie.close
+    (tie.spec
+    (λ c κs. search needs)
+    (λ c κs. search needs)
+    (λ c κs. search needs)
+    (λ c κs. search needs)
+    (λ c κs. search needs)
+    (λ c. search needs)
+    (λ c. search (needs, places-is)))

@@ -1,0 +1,20 @@
+-- `population::row` meets its contract. The parts' indices stand at the front of the scratch.
+-- Assumes nothing.
+use Rattle.population.proofs.Parts.{front-count}
+use Rattle.population.proofs.Rows.{planned-columns, planned-bounded, rows-within, rows-room, row-is}
+use borrow.Author.Needs.{needs}
+use Rattle.population.proofs.row.Statement.{statement}
+use Rattle.population.proofs.row.Tie as tie
+
+pub row-spec : {M : Type 1} → statement M
+row-spec =
+    tie.close
+    (tie.spec
+    (λ c κs. search needs)
+    (λ c. search needs)
+    (λ c κs. (search (needs, planned-bounded), (search needs, search needs)))
+    (λ c. search (needs, rows-within))
+    (λ c. search (needs, front-count, rows-within))
+    (λ c κs. (search (needs, planned-columns), search (needs, rows-room)))
+    (λ c. search needs)
+    (λ c. search (needs, row-is)))

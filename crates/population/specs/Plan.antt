@@ -1,0 +1,136 @@
+-- What is prepared for a predicate before its rows are written, and the row that it gives.
+use Prim.Native.Nat.{ℕ, suc, _+_, _%_, _≤_}
+use mathlib.Core.Path.{_≡_}
+use mathlib.Core.Bool.{Bool, true, false}
+use mathlib.Core.List.{List, [], _∷_, _++_, flatMap, flatten, map}
+use lib.Dec.{eqb}
+use lib.ListN.{length, getD, drop}
+use Rattle.counting.specs.Lists.{upFrom, mapFrom}
+use Rattle.orm.specs.Diagram.{Diagram, Role, index, allRoles}
+use Rattle.orm.specs.Sets.{Placed, Part, parts, groupRoles, firstRole}
+use Rattle.orm.specs.Populate.{size, firstValue, takenBefore}
+use Rattle.table.specs.Positions.{each, diagramOf, Walkable}
+use Rattle.table.specs.Cursors.{placedAt, Reach}
+use Rattle.table.specs.Valid.{Under}
+use Rattle.table.specs.declared.Cursor.{Cursor}
+use Rattle.tuples.specs.Steps.{steps, tupleIn, Small}
+use Rattle.tuples.specs.Nested.{tuplesIn}
+
+-- ---- parts
+
+-- The roles of the parts, part by part
+unfoldable pub order : Placed → List ℕ
+order x = flatMap (λ (b : Part). b .roles) (parts x)
+
+-- How many roles each part has, and how many members
+unfoldable pub counts : Placed → List ℕ
+counts x = map (λ (b : Part). length (b .roles)) (parts x)
+
+abbrev pub groupCounts : Placed → List ℕ → List ℕ
+groupCounts x numbers = map (λ (g : ℕ). length (groupRoles x g)) numbers
+
+unfoldable pub owns : List ℕ → Placed → List ℕ
+owns c x = map (λ (b : Part). size c (b .own)) (parts x)
+
+-- The sizes of some sets
+abbrev pub sizesOf : List ℕ → List ℕ → List ℕ
+sizesOf c sets = map (size c) sets
+
+-- ---- columns
+
+-- Where a number first stands in a list; past its end if it does not
+unfoldable pub position : ℕ → List ℕ → ℕ
+position p [] = 0
+position p (s ∷ ss) = elim (eqb s p) [ true ↦ 0 | false ↦ suc (position p ss) ]
+
+-- The roles played by the type with this number, of roles whose types are listed; they count from `i`
+unfoldable pub played : ℕ → ℕ → List ℕ → List ℕ
+played number i [] = []
+played number i (y ∷ ys) = elim (eqb y number) [ true ↦ i ∷ played number (suc i) ys | false ↦ played number (suc i) ys ]
+
+-- The size if the role is of the type with this number
+unfoldable pub share : Bool → ℕ → ℕ
+share true n = n
+share false n = 0
+
+-- Of the role `p`: its type's first value and size, how many members the type's roles before it take, and where its index stands in a row by parts;
+-- `types` has the types of all roles, `roles` the roles of the parts
+abbrev pub columnOf : Diagram → List ℕ → List ℕ → List ℕ → ℕ → Role → List ℕ
+columnOf d c types roles p r =
+    firstValue (d .types) (index (r .type)) ∷ size c (index (r .type)) ∷ takenBefore c p (played (r .type) (firstRole d) types) ∷ position p roles ∷ []
+
+-- There are not too many of them
+pub record Listed (types roles : List ℕ) : Type 0 where
+  pub few-types : length types ≤ 96
+  pub few-roles : length roles ≤ 42
+
+-- The cell of a column in a row that is given by parts
+unfoldable pub cellOf : List ℕ → List ℕ → ℕ
+cellOf flat s = getD s 0 0 + (getD s 2 0 + getD flat (getD s 3 0) 0) % getD s 1 0
+
+-- ---- rows
+
+-- Row `i` from what is prepared: so many columns; the steps of the parts; of each part its number of roles, and the steps of its roles
+unfoldable pub rowBy : List ℕ → ℕ → List ℕ → List ℕ → List ℕ → ℕ → List ℕ
+rowBy columns count outer ks inner i = each (cellOf (tuplesIn inner ks (tupleIn outer (length ks) i))) 4 count columns
+
+-- The cells of a predicate of this size, with so many roles
+unfoldable pub cellsBy : List ℕ → List ℕ → List ℕ → List ℕ → ℕ → ℕ → List ℕ
+cellsBy columns outer ks inner size count = size ∷ flatMap (rowBy columns count outer ks inner) (upFrom 0 size)
+
+-- ---- that all of it is small
+
+-- Counts wanted, and counts of sets
+pub record Wants (wants ks : List ℕ) : Type 0 where
+  pub few : length wants ≤ 100
+  pub wanted : Small wants
+  pub counted : Small ks
+
+-- Rows of parts, and room for all their indices
+pub record Room (inner ks rows : List ℕ) : Type 0 where
+  pub few : length rows ≤ 12
+  pub counted : Small ks
+  pub indices : (k : ℕ) → getD rows k 0 ≤ 8192
+  pub enough : length (tuplesIn inner ks rows) ≤ 42
+
+pub record Planned (columns outer ks inner : List ℕ) : Type 0 where
+  pub few : length ks ≤ 12
+  pub counted : Small ks
+  pub small : Under 999999 columns
+  pub enough : (i : ℕ) → length (tuplesIn inner ks (tupleIn outer (length ks) i)) ≤ 42
+
+-- At most 6 roles and 6 groups
+pub record Few (t : List ℕ) (x : Cursor) : Type 0 where
+  pub roles : getD (drop (x .at) t) 2 0 ≤ 6
+  pub groups : getD (drop (x .at) t) 3 0 ≤ 6
+
+-- The types of all roles
+pub record RoleTypes (t types : List ℕ) : Type 0 where
+  pub are : types ≡ map (λ (r : Role). r .type) (allRoles (diagramOf t))
+  pub small-enough : length types ≤ 96
+
+-- ---- what is known of a predicate whose cells are written
+
+-- A walk is at `x`, and the sizes `c` are small
+pub record Ready (t c : List ℕ) (x : Cursor) : Type 0 where
+  pub walk : Walkable t
+  pub sizes : Small c
+  pub reach : Reach x 1
+  pub few : Few t x
+
+-- Its columns
+pub record Columned (t c : List ℕ) (x : Cursor) (columns : List ℕ) : Type 0 where
+  pub types : List ℕ
+  pub typed : RoleTypes t types
+  pub are : columns ≡ flatten (mapFrom (columnOf (diagramOf t) c types (order (placedAt t x))) (x .roles) (placedAt t x .predicate .roles))
+
+-- The steps of its parts, whatever stands behind them
+pub record Stepped (t c : List ℕ) (x : Cursor) (outer : List ℕ) : Type 0 where
+  pub rest : List ℕ
+  pub is : outer ≡ steps (size c (x .own)) (owns c (placedAt t x)) ++ rest
+
+-- Both, and how many roles each part has
+pub record Prepared (t c : List ℕ) (x : Cursor) (columns outer ks : List ℕ) : Type 0 where
+  pub columned : Columned t c x columns
+  pub stepped : Stepped t c x outer
+  pub ks-are : ks ≡ counts (placedAt t x)

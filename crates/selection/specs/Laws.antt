@@ -1,0 +1,2 @@
+-- The laws of loops over roles.
+pub mod Selects

@@ -1,0 +1,23 @@
+-- Words for what single functions write and count.
+use Prim.Native.Nat.{ℕ, _≤_}
+use mathlib.Core.Bool.{Bool, true, false}
+use mathlib.Core.List.{List, [], _∷_}
+use lib.Dec.{eqb}
+use lib.ListN.{getD}
+use Rattle.orm.specs.Diagram.{Role}
+
+-- The number if the test holds
+abbrev pub when : Bool → ℕ → List ℕ
+when true x = x ∷ []
+when false x = []
+
+-- TYPE, MAND or GROUP, by its place on the line, is this number
+abbrev pub has : ℕ → ℕ → Role → Bool
+has i number r = eqb (getD (r .type ∷ r .mand ∷ r .group ∷ []) i 0) number
+
+-- Numbers that a loop over the roles of a predicate starts from: its first line's position, how many, the first one's set, the place on the line
+pub record Bounded (q count first i : ℕ) : Type 0 where
+  pub at : q ≤ 300000000
+  pub few : count ≤ 999999
+  pub set : first ≤ 200000000
+  pub place : i ≤ 2

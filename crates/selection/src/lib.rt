@@ -1,0 +1,138 @@
+// The roles of a valid table that have a number at a place of their lines: their sets, and how many
+// they are. Each function that writes does so from the index `at` on and answers the index behind.
+ghost use mathlib.Core.Path.{_≡_};
+ghost use mathlib.Core.Bool.{not};
+ghost use Prim.Native.Nat.{_+_, _-_, _≤_};
+ghost use lib.Dec.{eqb};
+ghost use lib.ListN.{length, drop};
+ghost use Rattle.counting.specs.Lists.{upFrom};
+ghost use Rattle.orm.specs.Sets.{select, groupRoles};
+ghost use Rattle.buffer.specs.Written.{Wrote};
+ghost use Rattle.table.specs.Positions.{rolesIn, Walkable};
+ghost use Rattle.table.specs.Cursors.{placedAt, Reach};
+ghost use Rattle.selection.specs.Selected.{when, has, Bounded};
+
+// ---- single numbers
+
+pub fn same(a: u32, b: u32) -> bool
+    ensures { λ r. ⌜ r ≡ eqb a b ⌝ }
+{
+    a == b
+}
+
+pub fn differ(a: u32, b: u32) -> bool
+    ensures { λ r. ⌜ r ≡ not (eqb a b) ⌝ }
+{
+    a != b
+}
+
+// The index of a number that counts from 1.
+pub fn less_one(x: u32) -> u32
+    ensures { λ r. ⌜ r ≡ x - 1 ⌝ }
+    ensures { λ r. ⌜ r ≤ x ⌝ }
+{
+    if x == 0 { 0 } else { x - 1 }
+}
+
+fn push_if(out: &mut [u32], at: usize, yes: bool, x: u32) -> usize
+    ensures { λ r. ⌜ Wrote (now (out .entry)) at (when yes x) (now (out .exit)) r ⌝ }
+{
+    if yes { buffer::push(out, at, x) } else { at }
+}
+
+fn add_if(n: u32, yes: bool) -> u32
+    requires { ⌜ n ≤ 100000000 ⌝ }
+    ensures { λ r. ⌜ r ≡ n + length (when yes 0) ⌝ }
+    ensures { λ r. ⌜ r ≤ n + 1 ⌝ }
+{
+    if yes { n + 1 } else { n }
+}
+
+// `count` consecutive numbers.
+pub fn push_up(out: &mut [u32], at: usize, first: u32, count: u32) -> usize
+    requires { ⌜ first + count ≤ 300000000 ⌝ }
+    ensures { λ r. ⌜ Wrote (now (out .entry)) at (upFrom first count) (now (out .exit)) r ⌝ }
+{
+    let mut left = count;
+    let mut x = first;
+    let mut to = at;
+    while 0 < left {
+        to = buffer::push(out, to, x);
+        x += 1;
+        left -= 1;
+    }
+    to
+}
+
+// ---- roles that have a number at a place of their lines
+
+// The sets of those among the `count` roles from position q on; `first` is the first role's set.
+pub fn push_roles(
+    t: &[u32],
+    q: usize,
+    count: u32,
+    first: u32,
+    i: usize,
+    number: u32,
+    out: &mut [u32],
+    at: usize,
+) -> usize
+    requires { ⌜ Walkable (now t) ⌝ }
+    requires { ⌜ Bounded q count first i ⌝ }
+    ensures { λ r.
+        ⌜ Wrote (now (out .entry)) at (select (has i number) first (rolesIn count (drop q (now (t .entry))))) (now (out .exit)) r ⌝ }
+{
+    let mut left = count;
+    let mut p = q;
+    let mut set = first;
+    let mut to = at;
+    while 0 < left {
+        let yes = same(table::field(t, p, i), number);
+        to = push_if(out, to, yes, set);
+        p += 3;
+        set += 1;
+        left -= 1;
+    }
+    to
+}
+
+// How many they are.
+pub fn count_roles(t: &[u32], q: usize, count: u32, i: usize, number: u32) -> u32
+    requires { ⌜ Walkable (now t) ⌝ }
+    requires { ⌜ Bounded q count 0 i ⌝ }
+    ensures { λ r. ⌜ r ≡ length (select (has i number) 0 (rolesIn count (drop q (now (t .entry))))) ⌝ }
+    ensures { λ r. ⌜ r ≤ count ⌝ }
+{
+    let mut left = count;
+    let mut p = q;
+    let mut n: u32 = 0;
+    while 0 < left {
+        let yes = same(table::field(t, p, i), number);
+        n = add_if(n, yes);
+        p += 3;
+        left -= 1;
+    }
+    n
+}
+
+// The sets of the roles in the predicate's group with this number; 0: in no group.
+pub fn push_in_group(t: &[u32], x: table::Cursor, number: u32, out: &mut [u32], at: usize) -> usize
+    requires { ⌜ Walkable (now t) ⌝ }
+    requires { ⌜ Reach x 1 ⌝ }
+    ensures { λ r. ⌜ Wrote (now (out .entry)) at (groupRoles (placedAt (now (t .entry)) x) number) (now (out .exit)) r ⌝ }
+{
+    let q = x.at + 4;
+    let count = table::field(t, x.at, 2);
+    push_roles(t, q, count, x.roles, 2, number, out, at)
+}
+
+pub fn count_in_group(t: &[u32], x: table::Cursor, number: u32) -> u32
+    requires { ⌜ Walkable (now t) ⌝ }
+    requires { ⌜ Reach x 1 ⌝ }
+    ensures { λ r. ⌜ r ≡ length (groupRoles (placedAt (now (t .entry)) x) number) ⌝ }
+    ensures { λ r. ⌜ r ≤ 999999 ⌝ }
+{
+    let q = x.at + 4;
+    let count = table::field(t, x.at, 2);
+    count_roles(t, q, count, 2, number)
+}

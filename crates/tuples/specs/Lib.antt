@@ -1,0 +1,4 @@
+pub mod Steps
+pub mod StepsLaws
+pub mod Stored
+pub mod Nested

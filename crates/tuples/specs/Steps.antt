@@ -1,0 +1,41 @@
+-- A pairing prepared for its rows: three numbers for each set, and the row that they give.
+use Prim.Native.Nat.{ℕ, zero, suc, _+_, _*_, _/_, _%_, min, _≤_}
+use mathlib.Core.List.{List, [], _∷_, _++_}
+use lib.ListN.{getD, drop}
+use Rattle.pairing.specs.Pairing.{lcm}
+
+-- The first `k` numbers of a list, 0 for each that is not there
+unfoldable pub padded : ℕ → List ℕ → List ℕ
+padded zero s = []
+padded (suc k) s = getD s 0 0 ∷ padded k (drop 1 s)
+
+-- For each further set: how many tuples it is paired with, the least common multiple of that count and its size, and its size
+unfoldable pub stepsFrom : ℕ → ℕ → List ℕ → List ℕ
+stepsFrom want n [] = []
+stepsFrom want n (t ∷ ts) = n ∷ lcm n t ∷ t ∷ stepsFrom want (min want (n * t)) ts
+
+-- The first set 'is taken as it is': three zeros, since a remainder by 0 is the number itself
+unfoldable pub steps : ℕ → List ℕ → List ℕ
+steps want [] = []
+steps want (s ∷ ss) = 0 ∷ 0 ∷ 0 ∷ stepsFrom want s ss
+
+-- Row `i` at step `j`: the index in the step's set, and the row's index in the tuples before
+unfoldable pub entryAt : List ℕ → ℕ → ℕ → ℕ
+entryAt s j i = (i + i / getD s (3 * j + 1) 0) % getD s (3 * j + 2) 0
+
+unfoldable pub indexBefore : List ℕ → ℕ → ℕ → ℕ
+indexBefore s j i = i % getD s (3 * j) 0
+
+-- Row `i` of the first `k` steps
+unfoldable pub tupleIn : List ℕ → ℕ → ℕ → List ℕ
+tupleIn s zero i = []
+tupleIn s (suc j) i = tupleIn s j (indexBefore s j i) ++ (entryAt s j i ∷ [])
+
+-- No number is above 4096
+pub record Small (xs : List ℕ) : Type 0 where
+  pub at : (k : ℕ) → getD xs k 0 ≤ 4096
+
+-- Numbers that a loop over some sets starts from: the position of the first, and how many
+pub record Bounded (at count : ℕ) : Type 0 where
+  pub from : at ≤ 1000000
+  pub few : count ≤ 1000000

@@ -1,0 +1,229 @@
+// Tuples of members by their indices, spread evenly over the members of the sets. A pairing is
+// prepared once, as three numbers for each of its sets; a row is then computed from its number.
+// Nothing here speaks of a diagram.
+ghost use mathlib.Core.Path.{_≡_};
+ghost use mathlib.Core.List.{[], _∷_};
+ghost use Prim.Native.Nat.{_+_, _*_, _/_, _%_, _≤_, _<_, min};
+ghost use lib.ListN.{length, getD, drop, set};
+ghost use Rattle.buffer.specs.Written.{Wrote};
+ghost use Rattle.pairing.specs.Pairing.{gcd, lcm};
+ghost use Rattle.tuples.specs.Steps.{padded, stepsFrom, steps, entryAt, indexBefore, tupleIn, Small, Bounded};
+ghost use Rattle.tuples.specs.Stored.{Stored};
+ghost use Rattle.tuples.specs.Nested.{stepsOfEach, tuplesIn, Indices};
+
+// A quotient by 0 is 0, a remainder by 0 the number itself.
+pub fn quotient(x: u32, k: u32) -> u32
+    ensures { λ r. ⌜ r ≡ x / k ⌝ }
+{
+    if k == 0 { 0 } else { x / k }
+}
+
+pub fn remainder(x: u32, k: u32) -> u32
+    ensures { λ r. ⌜ r ≡ x % k ⌝ }
+    ensures { λ r. ⌜ r ≤ x ⌝ }
+{
+    if k == 0 { x } else { x % k }
+}
+
+// Euclid's algorithm.
+pub fn gcd(a: u32, b: u32) -> u32
+    ensures { λ r. ⌜ r ≡ gcd a b ⌝ }
+{
+    let mut x = a;
+    let mut y = b;
+    while 0 < y {
+        let rest = remainder(x, y);
+        x = y;
+        y = rest;
+    }
+    x
+}
+
+pub fn lcm(a: u32, b: u32) -> u32
+    requires { ⌜ a ≤ 4096 ⌝ }
+    requires { ⌜ b ≤ 4096 ⌝ }
+    ensures { λ r. ⌜ r ≡ lcm a b ⌝ }
+{
+    quotient(a * b, gcd(a, b))
+}
+
+// How many tuples a set of t members makes of n, where so many are wanted.
+fn kept(want: u32, n: u32, t: u32) -> u32
+    requires { ⌜ n ≤ 4096 ⌝ }
+    requires { ⌜ t ≤ 4096 ⌝ }
+    ensures { λ r. ⌜ r ≡ min want (n * t) ⌝ }
+    ensures { λ r. ⌜ r ≤ want ⌝ }
+{
+    let all = n * t;
+    if all < want { all } else { want }
+}
+
+// The number at i, counted from `at`; 0 past the end.
+pub fn item(xs: &[u32], at: usize, i: usize) -> u32
+    ensures { λ r. ⌜ r ≡ getD (drop at (now (xs .entry))) i 0 ⌝ }
+{
+    if xs.len() <= at {
+        return 0;
+    }
+    if xs.len() - at <= i {
+        return 0;
+    }
+    xs[at + i]
+}
+
+// Past the end nothing is stored.
+pub fn store(out: &mut [u32], at: usize, x: u32)
+    ensures { λ _. ⌜ now (out .exit) ≡ set (now (out .entry)) at x ⌝ }
+{
+    if at < out.len() {
+        out[at] = x;
+    }
+}
+
+fn push_step(out: &mut [u32], at: usize, n: u32, common: u32, size: u32) -> usize
+    ensures { λ r. ⌜ Wrote (now (out .entry)) at (n ∷ common ∷ size ∷ []) (now (out .exit)) r ⌝ }
+{
+    let a = buffer::push(out, at, n);
+    let b = buffer::push(out, a, common);
+    buffer::push(out, b, size)
+}
+
+// The steps of the `count` sets whose sizes stand from `at` on, paired with n tuples.
+fn push_steps(
+    want: u32,
+    n: u32,
+    sizes: &[u32],
+    at: usize,
+    count: usize,
+    out: &mut [u32],
+    to: usize,
+) -> usize
+    requires { ⌜ Small (now sizes) ⌝ }
+    requires { ⌜ want ≤ 4096 ⌝ }
+    requires { ⌜ n ≤ 4096 ⌝ }
+    requires { ⌜ at + count ≤ 3000000 ⌝ }
+    ensures { λ r. ⌜ Wrote (now (out .entry)) to (stepsFrom want n (padded count (drop at (now (sizes .entry))))) (now (out .exit)) r ⌝ }
+{
+    let mut left = count;
+    let mut p = at;
+    let mut tuples = n;
+    let mut end = to;
+    while 0 < left {
+        let size = item(sizes, p, 0);
+        end = push_step(out, end, tuples, lcm(tuples, size), size);
+        tuples = kept(want, tuples, size);
+        p += 1;
+        left -= 1;
+    }
+    end
+}
+
+// Prepares the pairing of `count` sets, whose sizes stand from `at` on, to the count wanted.
+pub fn prepare(
+    want: u32,
+    sizes: &[u32],
+    at: usize,
+    count: usize,
+    out: &mut [u32],
+    to: usize,
+) -> usize
+    requires { ⌜ Small (now sizes) ⌝ }
+    requires { ⌜ want ≤ 4096 ⌝ }
+    requires { ⌜ Bounded at count ⌝ }
+    ensures { λ r. ⌜ Wrote (now (out .entry)) to (steps want (padded count (drop at (now (sizes .entry))))) (now (out .exit)) r ⌝ }
+{
+    if count == 0 {
+        return to;
+    }
+    let a = push_step(out, to, 0, 0, 0);
+    push_steps(want, item(sizes, at, 0), sizes, at + 1, count - 1, out, a)
+}
+
+// Of row i, the index in the set of step j; the steps stand from `at` on.
+fn entry(steps: &[u32], at: usize, j: usize, i: u32) -> u32
+    requires { ⌜ Bounded at j ⌝ }
+    requires { ⌜ i ≤ 1000000 ⌝ }
+    ensures { λ r. ⌜ r ≡ entryAt (drop at (now (steps .entry))) j i ⌝ }
+{
+    let common = item(steps, at, 3 * j + 1);
+    let size = item(steps, at, 3 * j + 2);
+    remainder(i + quotient(i, common), size)
+}
+
+// The row's index in the tuples that step j pairs.
+fn index_before(steps: &[u32], at: usize, j: usize, i: u32) -> u32
+    requires { ⌜ Bounded at j ⌝ }
+    ensures { λ r. ⌜ r ≡ indexBefore (drop at (now (steps .entry))) j i ⌝ }
+    ensures { λ r. ⌜ r ≤ i ⌝ }
+{
+    remainder(i, item(steps, at, 3 * j))
+}
+
+// Stores row i of a prepared pairing of `count` sets, whose steps stand from `at` on.
+pub fn tuple(steps: &[u32], at: usize, count: usize, i: u32, out: &mut [u32], to: usize)
+    requires { ⌜ Bounded at count ⌝ }
+    requires { ⌜ i ≤ 1000000 ⌝ }
+    requires { ⌜ to ≤ 1000000 ⌝ }
+    ensures { λ _. ⌜ Stored (now (out .entry)) to (tupleIn (drop at (now (steps .entry))) count i) (now (out .exit)) ⌝ }
+{
+    let mut j = count;
+    let mut x = i;
+    while 0 < j {
+        let v = entry(steps, at, j - 1, x);
+        store(out, to + (j - 1), v);
+        x = index_before(steps, at, j - 1, x);
+        j -= 1;
+    }
+}
+
+// A small number as an index.
+fn count_at(counts: &[u32], i: usize) -> usize
+    requires { ⌜ Small (now counts) ⌝ }
+    ensures { λ r. ⌜ r ≡ getD (drop i (now (counts .entry))) 0 0 ⌝ }
+    ensures { λ r. ⌜ r ≤ 4096 ⌝ }
+{
+    item(counts, i, 0) as usize
+}
+
+// Prepares a pairing for each count wanted. How many sets each has stands in `counts`, and the
+// sizes of all these sets stand one after another in `sizes`.
+pub fn prepare_each(wants: &[u32], counts: &[u32], sizes: &[u32], out: &mut [u32]) -> usize
+    requires { ⌜ Small (now wants) ⌝ }
+    requires { ⌜ Small (now counts) ⌝ }
+    requires { ⌜ Small (now sizes) ⌝ }
+    requires { ⌜ length (now wants) ≤ 100 ⌝ }
+    ensures { λ r. ⌜ Wrote (now (out .entry)) 0 (stepsOfEach (now (wants .entry)) (now (counts .entry)) (now (sizes .entry))) (now (out .exit)) r ⌝ }
+{
+    let mut i = 0;
+    let mut from = 0;
+    let mut to = 0;
+    while i < wants.len() {
+        let count = count_at(counts, i);
+        to = prepare(wants[i], sizes, from, count, out, to);
+        from += count;
+        i += 1;
+    }
+    to
+}
+
+// Stores a row of each of some prepared pairings, one row after another, and gives how many
+// numbers these are.
+pub fn tuple_each(steps: &[u32], counts: &[u32], rows: &[u32], out: &mut [u32]) -> usize
+    requires { ⌜ Small (now counts) ⌝ }
+    requires { ⌜ Indices (now rows) ⌝ }
+    requires { ⌜ length (now rows) ≤ 50 ⌝ }
+    ensures { λ _. ⌜ Stored (now (out .entry)) 0 (tuplesIn (now (steps .entry)) (now (counts .entry)) (now (rows .entry))) (now (out .exit)) ⌝ }
+    ensures { λ r. ⌜ r ≡ length (tuplesIn (now (steps .entry)) (now (counts .entry)) (now (rows .entry))) ⌝ }
+{
+    let mut n = 0;
+    let mut from = 0;
+    let mut to = 0;
+    while n < rows.len() {
+        let count = count_at(counts, n);
+        tuple(steps, from, count, rows[n], out, to);
+        from += 3 * count;
+        to += count;
+        n += 1;
+    }
+    to
+}

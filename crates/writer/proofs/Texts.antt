@@ -1,0 +1,124 @@
+-- The text of a predicate, of all predicates and of a diagram, put together from lines.
+use Prim.Native.Nat.{ℕ, zero, suc, _+_, _*_, _-_, _≤_, _<_}
+use mathlib.Core.Path.{_≡_, refl, sym, ap, ap₂, _∙_}
+use mathlib.Core.List.{List, [], _∷_, _++_, map, flatMap, append-assoc}
+use lib.ListN.{length, getD, drop}
+use lib.Seq.{drop-drop}
+use Rattle.orm.specs.Diagram.{Diagram, Line, lineOfType, lineOfRole, lineOfGroup, lineOfPred, linesOfPred, lineOfCount, typesLine, predLine, predsLine, endLine, allRoles, lines}
+use Rattle.orm.specs.Form.{typeOf, roleOf, groupOf}
+use Rattle.orm.specs.Text.{bytes, key, lineText, render}
+use Rattle.reading.specs.Exact.{written, written-append, written-one}
+use Rattle.reading.specs.Cutting.{textForm}
+use Rattle.buffer.specs.Written.{Wrote, Writing, Splits}
+use Rattle.buffer.specs.Laws.{wrote-then, wrote-as, writing-start}
+use Rattle.table.specs.Positions.{each, typesIn, rolesIn, groupsIn, predOf, predLength, predsIn, typeCount, predCount, firstPredAt, diagramOf}
+use Rattle.table.specs.Laws.Walks.{each-length, preds-more, preds-none, preds-length}
+use Rattle.numerals.specs.Lines.{numbersFrom, keyed, keyedLines}
+use Rattle.writer.specs.Lines.{linesText, predLines, typesText, predsText}
+
+-- ---- lines of one kind
+
+module _ {A : Type 0} (make : List ℕ → A) (n : ℕ) (lineOf : A → Line) (k : List ℕ)
+    (same : (s : List ℕ) → lineText (key (lineOf (make s) .kind)) (lineOf (make s) .values) ≡ keyed k (numbersFrom s 0 n)) where
+  each-text : (count : ℕ) (s : List ℕ) → keyedLines k n count s ≡ linesText (map lineOf (each make n count s))
+  unfolding written keyedLines each flatMap
+  each-text zero s = refl
+  each-text (suc c) s = ap₂ {C = List ℕ} (λ a b. a ++ b) (sym (same s)) (each-text c (drop n s))
+
+types-text : (count : ℕ) (s : List ℕ) → keyedLines (bytes "type=") 6 count s ≡ linesText (map lineOfType (typesIn count s))
+unfolding lineOfType lineText bytes key keyed numbersFrom
+types-text = each-text typeOf 6 lineOfType (bytes "type=") (λ s. refl)
+
+roles-text : (count : ℕ) (s : List ℕ) → keyedLines (bytes "role=") 3 count s ≡ linesText (map lineOfRole (rolesIn count s))
+unfolding lineOfRole lineText bytes key keyed numbersFrom
+roles-text = each-text roleOf 3 lineOfRole (bytes "role=") (λ s. refl)
+
+groups-text : (count : ℕ) (s : List ℕ) → keyedLines (bytes "freq=") 2 count s ≡ linesText (map lineOfGroup (groupsIn count s))
+unfolding lineOfGroup lineText bytes key keyed numbersFrom
+groups-text = each-text groupOf 2 lineOfGroup (bytes "freq=") (λ s. refl)
+
+-- ---- predicates
+
+head-text : (s : List ℕ) → keyed (bytes "pred=") (numbersFrom s 0 4) ≡ lineText (key predLine) (lineOfPred (predOf s) .values)
+unfolding lineOfPred lineText bytes key keyed numbersFrom
+head-text s = rw (each-length roleOf 3 (getD s 2 0) (drop 4 s), each-length groupOf 2 (getD s 3 0) (drop (4 + 3 * getD s 2 0) s)) refl
+
+pred-text : (s : List ℕ)
+    → keyed (bytes "pred=") (numbersFrom s 0 4)
+    ++ (keyedLines (bytes "role=") 3 (getD s 2 0) (drop 4 s) ++ keyedLines (bytes "freq=") 2 (getD s 3 0) (drop (4 + 3 * getD s 2 0) s))
+    ≡ linesText (linesOfPred (predOf s))
+unfolding linesOfPred lineOfPred written flatMap
+pred-text s =
+    ap₂ {C = List ℕ} (λ a b. a ++ b) (head-text s)
+    (ap₂ {C = List ℕ} (λ a b. a ++ b) (roles-text (getD s 2 0) (drop 4 s)) (groups-text (getD s 3 0) (drop (4 + 3 * getD s 2 0) s))
+    ∙ sym (written-append textForm (map lineOfRole (predOf s .roles)) (map lineOfGroup (predOf s .groups))))
+
+-- `r` and `g` are its numbers of roles and groups, and `i` and `j` the same as indices
+pub pred-is : (t : List ℕ) (p : ℕ) {o o₁ o₂ o₃ : List ℕ} {at a b c r g i j : ℕ} → r ≡ getD (drop p t) 2 0 → g ≡ getD (drop p t) 3 0
+    → i ≡ r → j ≡ g → Wrote o at (keyed (bytes "pred=") (numbersFrom (drop p t) 0 4)) o₁ a
+    → Wrote o₁ a (keyedLines (bytes "role=") 3 i (drop (p + 4) t)) o₂ b
+    → Wrote o₂ b (keyedLines (bytes "freq=") 2 j (drop (p + (4 + 3 * i)) t)) o₃ c
+    → Wrote o at (linesText (linesOfPred (predOf (drop p t)))) o₃ c
+pred-is t p er eg ei ej w₁ w₂ w₃ =
+    let s : List ℕ = drop p t in
+    wrote-as (wrote-then w₁ (wrote-then w₂ w₃)) (rw (ej, eg, ei, er, ← drop-drop 4 p t, ← drop-drop (4 + 3 * getD s 2 0) p t) (pred-text s))
+
+module _ (t : List ℕ) where
+  pub preds-start : (o : List ℕ) (at : ℕ) {p n : ℕ} → p ≡ firstPredAt t → n ≡ predCount t
+      → Writing o at (predLines (diagramOf t .preds)) o at (predLines (predsIn n (drop p t)))
+  unfolding diagramOf
+  preds-start o at ep en = rw (ep, en) (writing-start o at (predLines (predsIn (predCount t) (drop (firstPredAt t) t))))
+
+  pub preds-next : (p n : ℕ) {q : ℕ} → 0 < n → q ≡ p + predLength (drop p t)
+      → Splits (predLines (predsIn n (drop p t))) (linesText (linesOfPred (predOf (drop p t)))) (predLines (predsIn (n - 1) (drop q t)))
+  unfolding flatMap
+  preds-next p n {q} h eq = record {
+    is =
+        ap predLines (preds-more t p n h eq)
+        ∙ written-append textForm (linesOfPred (predOf (drop p t))) (flatMap linesOfPred (predsIn (n - 1) (drop q t)));
+  }
+
+  pub preds-end : (p n : ℕ) → n ≤ 0 → predLines (predsIn n (drop p t)) ≡ []
+  unfolding flatMap written
+  preds-end p n h = ap predLines (preds-none n (drop p t) h)
+
+-- ---- the diagram
+
+text-whole : (d : Diagram)
+    → keyed (bytes "diagram=") (1 ∷ []) ++ (typesText d ++ (predsText d ++ keyed (bytes "end=") (length (allRoles d) ∷ []))) ≡ render d
+unfolding render lines written typesText predsText lineOfCount lineText bytes key keyed flatMap
+text-whole d =
+    let ts : List Line = lineOfCount typesLine (length (d .types)) ∷ map lineOfType (d .types) in
+    let ps : List Line = lineOfCount predsLine (length (d .preds)) ∷ flatMap linesOfPred (d .preds) in
+    let last : List ℕ = keyed (bytes "end=") (length (allRoles d) ∷ []) in
+    let front : List ℕ → List ℕ = λ x. keyed (bytes "diagram=") (1 ∷ []) ++ x in
+    sym
+    (ap front
+    (written-append textForm (ts ++ ps) (lineOfCount endLine (length (allRoles d)) ∷ [])
+    ∙ ap₂ {C = List ℕ} (λ a b. a ++ b) (written-append textForm ts ps) (written-one textForm (lineOfCount endLine (length (allRoles d))))
+    ∙ append-assoc (linesText ts) (linesText ps) last))
+
+module _ (t : List ℕ) {o o₁ o₂ : List ℕ} {at a b : ℕ} where
+  pub types-is : {m n : ℕ} → m ≡ typeCount t → n ≡ m → Wrote o at (keyed (bytes "types=") (n ∷ [])) o₁ a
+      → Wrote o₁ a (keyedLines (bytes "type=") 6 n (drop 2 t)) o₂ b → Wrote o at (typesText (diagramOf t)) o₂ b
+  unfolding typesText diagramOf written lineOfCount lineText bytes key keyed flatMap
+  types-is {m} {n} em en w v =
+      let e : n ≡ typeCount t = en ∙ em in
+      let long : length (typesIn n (drop 2 t)) ≡ n = each-length typeOf 6 n (drop 2 t) in
+      rw (← e)
+      (wrote-as (wrote-then w v) (ap₂ (λ (m : ℕ) (x : List ℕ). keyed (bytes "types=") (m ∷ []) ++ x) (sym long) (types-text n (drop 2 t))))
+
+  pub preds-are : {m n : ℕ} → m ≡ predCount t → n ≡ m → Wrote o at (keyed (bytes "preds=") (n ∷ [])) o₁ a
+      → Wrote o₁ a (predLines (diagramOf t .preds)) o₂ b → Wrote o at (predsText (diagramOf t)) o₂ b
+  unfolding predsText diagramOf written lineOfCount lineText bytes key keyed flatMap
+  preds-are {m} {n} em en w v =
+      let e : n ≡ predCount t = en ∙ em in
+      let long : length (diagramOf t .preds) ≡ n = preds-length (predCount t) (drop (firstPredAt t) t) ∙ sym e in
+      wrote-as (wrote-then w v)
+      (ap (λ (m : ℕ). keyed (bytes "preds=") (m ∷ []) ++ predLines (diagramOf t .preds)) (sym long))
+
+pub text-is : (t : List ℕ) {o o₁ o₂ o₃ o₄ : List ℕ} {a b c d m n : ℕ} → m ≡ length (allRoles (diagramOf t)) → n ≡ m
+    → Wrote o 0 (keyed (bytes "diagram=") (1 ∷ [])) o₁ a → Wrote o₁ a (typesText (diagramOf t)) o₂ b
+    → Wrote o₂ b (predsText (diagramOf t)) o₃ c → Wrote o₃ c (keyed (bytes "end=") (n ∷ [])) o₄ d
+    → Wrote o 0 (render (diagramOf t)) o₄ d
+text-is t em en w₁ w₂ w₃ w₄ = wrote-as (wrote-then w₁ (wrote-then w₂ (wrote-then w₃ w₄))) (rw (en, em) (text-whole (diagramOf t)))

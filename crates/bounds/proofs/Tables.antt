@@ -123,4 +123,10 @@ module _ {t : List ℕ} (v : Valid t) where
           → Answered (ended (run (decode (take m l′)) (take n a′) (take k b′)) (length s)) r s s′ → Answered (checkCall t (length s)) r s s′
       unfolding verdict
       checked {s = s} wl h =
-          rw (check-is (length s)) (rw (limits-decode (diagramOf t) (v .formed) (omega (arith, scratch .limits)) wl, wrote-front wa lower-room, wrote-front wb upper-room) at h)
+          rw (check-is (length s))
+          (rw (
+            limits-decode (diagramOf t) (v .formed)
+                (omega (arith, scratch .limits)) wl,
+            wrote-front wa lower-room,
+            wrote-front wb upper-room,
+          ) at h)

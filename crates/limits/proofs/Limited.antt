@@ -97,7 +97,8 @@ module _ (t : List ℕ) (x : Cursor) where
   part-sets {g} eg =
       let long : length (placedAt t x .predicate .groups) ≡ g = each-length groupOf 2 _ _ ∙ sym eg in
       let zero-first : x .groups + 0 ≡ x .groups = omega arith in
-      sym (map-append (λ (b : Part). b .own) (map (groupPart (placedAt t x)) (upFrom 1 (length (placedAt t x .predicate .groups)))) (map rolePart (groupRoles (placedAt t x) 0))
+      sym (map-append (λ (b : Part). b .own) (map (groupPart (placedAt t x)) (upFrom 1 (length (placedAt t x .predicate .groups))))
+      (map rolePart (groupRoles (placedAt t x) 0))
       ∙ ap₂ {C = List ℕ} (λ k l. k ++ l) (ap (λ (m : ℕ). map (λ (b : Part). b .own) (map (groupPart (placedAt t x)) (upFrom 1 m))) long
       ∙ group-sets 0 g ∙ ap (λ (m : ℕ). upFrom m g) zero-first) (role-sets (groupRoles (placedAt t x) 0)))
 
@@ -107,5 +108,6 @@ module _ (t : List ℕ) (x : Cursor) where
   unfolding limitOfRows placedAt
   rows-is {g = g} {n = n} eg en w₁ w₂ w₃ =
       let long : g + n ≡ length (map (λ (b : Part). b .own) (parts (placedAt t x))) =
-      sym (ap length (sym (part-sets eg)) ∙ length-append (upFrom (x .groups) g) (groupRoles (placedAt t x) 0) ∙ ap₂ (λ (i j : ℕ). i + j) (length-upFrom (x .groups) g) (sym en)) in
+      sym (ap length (sym (part-sets eg)) ∙ length-append (upFrom (x .groups) g) (groupRoles (placedAt t x) 0) ∙ ap₂ (λ (i j : ℕ). i + j)
+      (length-upFrom (x .groups) g) (sym en)) in
       product-is (x .own) long w₁ (wrote-as (wrote-then w₂ w₃) (part-sets eg))

@@ -71,7 +71,8 @@ module _ (t : List ℕ) (x : Cursor) (o : List ℕ) (at : ℕ) where
       (items (limitsOfGroup (placedAt t x)) 1 (groupsIn n (drop (x .at + (4 + 3 * i)) t)))
   unfolding placedAt
   groups-start en er ei =
-      rw (en, ei, er, ← drop-drop (4 + 3 * getD (drop (x .at) t) 2 0) (x .at) t) (writing-start o at (items (limitsOfGroup (placedAt t x)) 1 (placedAt t x .predicate .groups)))
+      rw (en, ei, er, ← drop-drop (4 + 3 * getD (drop (x .at) t) 2 0) (x .at) t)
+      (writing-start o at (items (limitsOfGroup (placedAt t x)) 1 (placedAt t x .predicate .groups)))
 
 -- ---- predicates
 
@@ -84,7 +85,9 @@ module _ (t : List ℕ) where
   pred-is x w₁ w₂ w₃ =
       let rs : List Limit = flatten (mapFrom (limitsOfRole (placedAt t x)) (x .roles) (placedAt t x .predicate .roles)) in
       let gs : List Limit = flatten (mapFrom (limitsOfGroup (placedAt t x)) 1 (placedAt t x .predicate .groups)) in
-      wrote-as (wrote-then (wrote-then w₁ w₂) w₃) (sym (encode-append (rs ++ gs) (limitOfRows (placedAt t x) ∷ []) ∙ ap (λ (l : List ℕ). l ++ encode (limitOfRows (placedAt t x) ∷ [])) (encode-append rs gs)))
+      wrote-as (wrote-then (wrote-then w₁ w₂) w₃)
+      (sym (encode-append (rs ++ gs) (limitOfRows (placedAt t x) ∷ []) ∙ ap (λ (l : List ℕ). l ++ encode (limitOfRows (placedAt t x) ∷ []))
+      (encode-append rs gs)))
 
   pub limits-start : (o : List ℕ) (at : ℕ) {x : Cursor} {n : ℕ} → x ≡ firstCursor t → n ≡ predCount t
       → Writing o at (encode (flatMap limitsOfPred (placed (diagramOf t)))) o at (encode (flatMap limitsOfPred (placedLeft n t x)))
@@ -119,14 +122,16 @@ module _ (t : List ℕ) (number : ℕ) where
 
   playing-cons : (i at n : ℕ) {e : ℕ} → 0 < n → e ≡ at + predLength (drop at t)
       → playing number i (predsIn n (drop at t))
-      ≡ select (has 0 number) i (rolesIn (getD (drop at t) 2 0) (drop (at + 4) t)) ++ playing number (i + getD (drop at t) 2 0) (predsIn (n - 1) (drop e t))
+      ≡ select (has 0 number) i (rolesIn (getD (drop at t) 2 0) (drop (at + 4) t)) ++ playing number (i + getD (drop at t) 2 0)
+      (predsIn (n - 1) (drop e t))
   unfolding playing flatMap
   playing-cons i at n {e} h ee =
       let s : List ℕ = drop at t in
       let rest : List Role = flatMap (λ (p : Predicate). p .roles) (predsIn (n - 1) (drop e t)) in
       ap (playing number i) (preds-more t at n h ee)
       ∙ select-append (has 0 number) i (rolesIn (getD s 2 0) (drop 4 s)) rest
-      ∙ ap₂ {C = List ℕ} (λ a m. select (has 0 number) i (rolesIn (getD s 2 0) a) ++ select (has 0 number) (i + m) rest) (drop-drop 4 at t) (each-length roleOf 3 (getD s 2 0) (drop 4 s))
+      ∙ ap₂ {C = List ℕ} (λ a m. select (has 0 number) i (rolesIn (getD s 2 0) a) ++ select (has 0 number) (i + m) rest) (drop-drop 4 at t)
+      (each-length roleOf 3 (getD s 2 0) (drop 4 s))
 
   module _ (x : Cursor) (n : ℕ) where
     pub playing-more : {y : Cursor} {r : ℕ} → 0 < n → y ≡ nextCursor t x → r ≡ getD (drop (x .at) t) 2 0
@@ -160,7 +165,8 @@ module _ (t : List ℕ) (number : ℕ) where
 
     pub played-all : n ≤ 0 → m ≡ total
     unfolding playing flatMap select
-    played-all h = let none : length (playing number 0 (predsIn n (drop at t))) ≡ 0 = ap (λ (ps : List Predicate). length (playing number 0 ps)) (preds-none n (drop at t) h) in omega (arith, none, w)
+    played-all h = let none : length (playing number 0 (predsIn n (drop at t))) ≡ 0 = ap (λ (ps : List Predicate). length (playing number 0 ps))
+        (preds-none n (drop at t) h) in omega (arith, none, w)
 
 -- ---- types
 
@@ -178,7 +184,8 @@ module _ (d : Diagram) (a : ℕ) {o o₁ o₂ : List ℕ} {at b c : ℕ} where
       → Wrote o at (encode (limitsOfType d a (typeOf s))) o₂ c
   unfolding limitsOfType isRoot isIndependent
   type-is s {super} {indep} {set} {subtype} {dependent} es eset eb ei eo w v =
-      wrote-as (wrote-then w v) (sym (encode-append (onlyIf subtype (atMost a set)) (onlyIf dependent (limitOfPlayed d a))) ∙ rw (eb, eo, eset, es, ei))
+      wrote-as (wrote-then w v)
+      (sym (encode-append (onlyIf subtype (atMost a set)) (onlyIf dependent (limitOfPlayed d a))) ∙ rw (eb, eo, eset, es, ei))
 
 module _ (t : List ℕ) where
   pub types-start : (o : List ℕ) (at : ℕ) {n : ℕ} → n ≡ typeCount t

@@ -65,7 +65,8 @@ module _ (t : List ℕ) (d : Diagram) (call : ℕ → Outcome Sized) (result : P
           by-number : (b : Bool) → eqb c 7 ≡ b → Ending t d result (call (length before)) before
           by-number true h =
               let q : call (length before) ≡ refused 7 place round = e ∙ ap (λ (n : ℕ). refused n place round) (eqb-true c 7 h) in
-              emptied place round q (refuses .exactly-when (length before) .0 (place, round, q)) (refuses .set-and-round (length before) place round q)
+              emptied place round q (refuses .exactly-when (length before) .0 (place, round, q))
+              (refuses .set-and-round (length before) place round q)
           by-number false h = other (refused c place round) e λ p r q. eqb-false c 7 h (cc)
 
 -- ---- what is handed back, and the buffer, by the ending
@@ -105,7 +106,8 @@ module _ (t : List ℕ) (d : Diagram) (result : Populated t d → List ℕ) (bef
   by-ending (result-written n rounds) o e w (emptied set round q n′ a) = let z : _≡_ {A = ℕ} 0 1 = cc in absurd (omega arith)
   by-ending (result-written n rounds) o e w (lacks p q s) = let z : _≡_ {A = ℕ} 0 1 = cc in absurd (omega arith)
   by-ending (result-written n rounds) o e w (writes p q) =
-      let h : _≡_ {A = Handed} (record { rounds = rounds; resultLength = n }) (record { rounds = p .rounds; resultLength = length (result p) }) = cc in
+      let h : _≡_ {A = Handed} (record { rounds = rounds; resultLength = n })
+      (record { rounds = p .rounds; resultLength = length (result p) }) = cc in
       let en : n ≡ length (result p) = ap (λ (x : Handed). x .resultLength) h in
       record {
         populated = p;

@@ -28,8 +28,10 @@ module _ (d : Diagram) (c types roles : List ℕ) where
       → Wrote o at (v ∷ []) o₁ b → Wrote o₁ b (n ∷ []) o₂ e → Wrote o at (firstValue (d .types) a ∷ getD c a 0 ∷ []) o₂ e
   values-is a ev en w u = wrote-as (wrote-then w u) (rw (ev, en))
 
-  pub places-is : (number p : ℕ) {first k m : ℕ} {o o₁ o₂ : List ℕ} {at b e : ℕ} → first ≡ firstRole d → k ≡ takenBefore c p (played number first types) → m ≡ position p roles
-      → Wrote o at (k ∷ []) o₁ b → Wrote o₁ b (m ∷ []) o₂ e → Wrote o at (takenBefore c p (played number (firstRole d) types) ∷ position p roles ∷ []) o₂ e
+  pub places-is : (number p : ℕ) {first k m : ℕ} {o o₁ o₂ : List ℕ} {at b e : ℕ} → first ≡ firstRole d
+      → k ≡ takenBefore c p (played number first types) → m ≡ position p roles
+      → Wrote o at (k ∷ []) o₁ b → Wrote o₁ b (m ∷ []) o₂ e
+      → Wrote o at (takenBefore c p (played number (firstRole d) types) ∷ position p roles ∷ []) o₂ e
   places-is number p ef ek em w u = wrote-as (wrote-then w u) (rw (ek, em, ef))
 
   pub column-is : (p : ℕ) (s : List ℕ) {number a : ℕ} {o o₁ o₂ : List ℕ} {at b e : ℕ} → number ≡ getD s 0 0 → a ≡ number - 1
@@ -42,7 +44,9 @@ module _ (d : Diagram) (c types roles : List ℕ) where
   columnsFrom p rs = flatten (mapFrom (columnOf d c types roles) p rs)
 
   module _ (t : List ℕ) (q n p : ℕ) where
-    pub columns-more : 0 < n → Splits (columnsFrom p (rolesIn n (drop q t))) (columnOf d c types roles p (roleOf (drop q t))) (columnsFrom (p + 1) (rolesIn (n - 1) (drop (q + 3) t)))
+    pub columns-more : 0 < n
+        → Splits (columnsFrom p (rolesIn n (drop q t))) (columnOf d c types roles p (roleOf (drop q t)))
+        (columnsFrom (p + 1) (rolesIn (n - 1) (drop (q + 3) t)))
     unfolding mapFrom flatten
     columns-more h = record { is = ap (columnsFrom p) (each-more roleOf 3 t q n h) ∙ rw add-one }
 

@@ -41,10 +41,13 @@ type-length : (d : Diagram) (c : List ℕ) (a : ℕ) → length (cellsOfType (ty
 unfolding cellsOfType typeValues
 type-length d c a = omega (arith, length-upFrom (firstValue (d .types) a) (getD c a 0))
 
-pub types-counted : (t c : List ℕ) {n : ℕ} → n ≡ typeCount t → Counted 0 (typeCells (diagramOf t) c 0 n) (typeCells (diagramOf t) c 0 (length (diagramOf t .types)))
-types-counted t c e = let long : length (diagramOf t .types) ≡ typeCount t = unfold diagramOf in each-length typeOf 6 (typeCount t) (drop 2 t) in rw (e, ← long) (record { is = omega arith })
+pub types-counted : (t c : List ℕ) {n : ℕ} → n ≡ typeCount t
+    → Counted 0 (typeCells (diagramOf t) c 0 n) (typeCells (diagramOf t) c 0 (length (diagramOf t .types)))
+types-counted t c e = let long : length (diagramOf t .types) ≡ typeCount t = unfold diagramOf in each-length typeOf 6 (typeCount t)
+    (drop 2 t) in rw (e, ← long) (record { is = omega arith })
 
-pub type-counted : (d : Diagram) (c : List ℕ) (a n : ℕ) {m k i : ℕ} {whole : List ℕ} → Counted m (typeCells d c a n) whole → 0 < n → k ≡ getD c a 0 → i ≡ k → Counted (m + (1 + i)) (typeCells d c (a + 1) (n - 1)) whole
+pub type-counted : (d : Diagram) (c : List ℕ) (a n : ℕ) {m k i : ℕ} {whole : List ℕ} → Counted m (typeCells d c a n) whole → 0 < n
+    → k ≡ getD c a 0 → i ≡ k → Counted (m + (1 + i)) (typeCells d c (a + 1) (n - 1)) whole
 type-counted d c a n w h ek ei = counted-more w (types-more d c a n h) (type-length d c a ∙ ap (λ (j : ℕ). 1 + j) (sym ek ∙ sym ei))
 
 -- ---- predicates
@@ -54,19 +57,29 @@ unfolding flatten
 rows-length d c y [] = sym (zero-mul (length (y .predicate .roles)))
 rows-length d c y (i ∷ is) =
     let one : length (row d c y i) ≡ length (y .predicate .roles) = unfold row in length-mapFrom _ (y .roles) (y .predicate .roles) in
-    omega (arith, length-append (row d c y i) (flatten (map (row d c y) is)), one, rows-length d c y is, suc-mul (length is) (length (y .predicate .roles)))
+    omega (
+      arith,
+      length-append (row d c y i) (flatten (map (row d c y) is)),
+      one,
+      rows-length d c y is,
+      suc-mul (length is)
+          (length (y .predicate .roles)),
+    )
 
 pred-length : (d : Diagram) (c : List ℕ) (y : Placed) → length (cellsOfPred (rows d c y)) ≡ 1 + getD c (y .own) 0 * length (y .predicate .roles)
 unfolding cellsOfPred rows
 pred-length d c y =
-    let e : length (flatten (map (row d c y) (upFrom 0 (size c (y .own))))) ≡ size c (y .own) * length (y .predicate .roles) = rows-length d c y (upFrom 0 (size c (y .own))) ∙ ap (λ (n : ℕ). n * length (y .predicate .roles)) (length-upFrom 0 (size c (y .own))) in
+    let e : length (flatten (map (row d c y) (upFrom 0 (size c (y .own))))) ≡ size c (y .own) * length (y .predicate .roles) = rows-length d c y
+    (upFrom 0 (size c (y .own))) ∙ ap (λ (n : ℕ). n * length (y .predicate .roles)) (length-upFrom 0 (size c (y .own))) in
     omega (arith, e)
 
 module _ (t c : List ℕ) where
-  pub preds-counted : {x : Cursor} {n : ℕ} → x ≡ firstCursor t → n ≡ predCount t → Counted 0 (predCells t c (placedLeft n t x)) (predCells t c (placed (diagramOf t)))
+  pub preds-counted : {x : Cursor} {n : ℕ} → x ≡ firstCursor t → n ≡ predCount t
+      → Counted 0 (predCells t c (placedLeft n t x)) (predCells t c (placed (diagramOf t)))
   preds-counted ex en = rw (placed-start t ex en) (record { is = omega arith })
 
-  pub pred-counted : (x : Cursor) (n : ℕ) {y : Cursor} {m k : ℕ} {whole : List ℕ} → Counted m (predCells t c (placedLeft n t x)) whole → 0 < n → y ≡ nextCursor t x
+  pub pred-counted : (x : Cursor) (n : ℕ) {y : Cursor} {m k : ℕ} {whole : List ℕ} → Counted m (predCells t c (placedLeft n t x)) whole → 0 < n
+      → y ≡ nextCursor t x
       → k ≡ getD c (x .own) 0 * getD (drop (x .at) t) 2 0 → Counted (m + (1 + k)) (predCells t c (placedLeft (n - 1) t y)) whole
   pred-counted x n w h ey ek =
       let own : getD c (placedAt t x .own) 0 ≡ getD c (x .own) 0 = unfold placedAt in refl in
@@ -81,7 +94,9 @@ row-cells ea eb ei ej = rw (ei, ej, ea, eb)
 pub row-cells-few : (a b : ℕ) {i j : ℕ} → a ≤ 4096 → b ≤ 999999 → i ≡ a → j ≡ b → i * j ≤ 5000000000
 row-cells-few a b h k ei ej = rw (ei, ej) (omega (arith, mul-le-mul h k))
 
-pub cells-counted : (t c : List ℕ) {a b : ℕ} → a ≡ length (typeCells (diagramOf t) c 0 (length (diagramOf t .types))) → b ≡ length (predCells t c (placed (diagramOf t)))
+pub cells-counted : (t c : List ℕ) {a b : ℕ} → a ≡ length (typeCells (diagramOf t) c 0 (length (diagramOf t .types)))
+    → b ≡ length (predCells t c (placed (diagramOf t)))
     → a + b ≡ length (cells (population (diagramOf t) c))
 unfolding cells population
-cells-counted t c ea eb = rw (ea, eb) (sym (length-append (typeCells (diagramOf t) c 0 (length (diagramOf t .types))) (predCells t c (placed (diagramOf t)))))
+cells-counted t c ea eb = rw (ea, eb)
+    (sym (length-append (typeCells (diagramOf t) c 0 (length (diagramOf t .types))) (predCells t c (placed (diagramOf t)))))

@@ -42,7 +42,8 @@ module _ (x : Placed) where
   grouped-none a zero h = refl
   grouped-none a (suc n) h = absurd (omega arith)
 
-  pub group-counts-more : (a n : ℕ) {k : ℕ} → 0 < n → k ≡ length (groupRoles x a) → Splits (groupCounts x (upFrom a n)) (k ∷ []) (groupCounts x (upFrom (a + 1) (n - 1)))
+  pub group-counts-more : (a n : ℕ) {k : ℕ} → 0 < n → k ≡ length (groupRoles x a)
+      → Splits (groupCounts x (upFrom a n)) (k ∷ []) (groupCounts x (upFrom (a + 1) (n - 1)))
   unfolding upFrom
   group-counts-more a zero h ek = absurd (omega arith)
   group-counts-more a (suc n) h ek = let e : suc n - 1 ≡ n = omega arith in record { is = rw (e, add-one, ek) }
@@ -90,13 +91,15 @@ module _ (x : Placed) where
   unfolding parts groupPart rolePart groupSet
   own-parts =
       simp (map-append, map-map)
-      (ap₂ {C = List ℕ} (λ y z. y ++ z) (up-sets (x .groups) 0 groupCount ∙ ap (λ (m : ℕ). upFrom m groupCount) (add-zero (x .groups))) (map-id (groupRoles x 0)))
+      (ap₂ {C = List ℕ} (λ y z. y ++ z) (up-sets (x .groups) 0 groupCount ∙ ap (λ (m : ℕ). upFrom m groupCount) (add-zero (x .groups)))
+      (map-id (groupRoles x 0)))
 
   pub parts-length : length (parts x) ≡ groupCount + length (groupRoles x 0)
   unfolding parts
   parts-length =
       length-append (map (groupPart x) (upFrom 1 groupCount)) (map rolePart (groupRoles x 0))
-      ∙ ap₂ {C = ℕ} (λ m n. m + n) (length-map (upFrom 1 groupCount) (groupPart x) ∙ length-upFrom 1 groupCount) (length-map (groupRoles x 0) rolePart)
+      ∙ ap₂ {C = ℕ} (λ m n. m + n) (length-map (upFrom 1 groupCount) (groupPart x) ∙ length-upFrom 1 groupCount)
+      (length-map (groupRoles x 0) rolePart)
 
 -- how long they are
 select-few : (test : Role → Bool) (i : ℕ) (rs : List Role) → length (select test i rs) ≤ length rs
@@ -104,7 +107,8 @@ unfolding select
 select-few test i [] = omega arith
 select-few test i (r ∷ rs) = go (test r) (select-few test (suc i) rs)
   where
-    go : (b : Bool) → length (select test (suc i) rs) ≤ length rs → length {A = ℕ} (elim b as (λ _. List ℕ) [ true ↦ i ∷ select test (suc i) rs | false ↦ select test (suc i) rs ]) ≤ suc (length rs)
+    go : (b : Bool) → length (select test (suc i) rs) ≤ length rs
+        → length {A = ℕ} (elim b as (λ _. List ℕ) [ true ↦ i ∷ select test (suc i) rs | false ↦ select test (suc i) rs ]) ≤ suc (length rs)
     go true h = omega arith
     go false h = omega arith
 
@@ -123,16 +127,20 @@ module _ (t : List ℕ) (x : Cursor) where
 
   group-few : (g : ℕ) → Few t x → length (groupRoles (placedAt t x) g) ≤ 6
   unfolding groupRoles rolesInGroup
-  group-few g f = omega (arith, select-few (λ (r : Role). eqb (r .group) g) (placedAt t x .roles) (placedAt t x .predicate .roles), role-count, f .roles)
+  group-few g f = omega
+      (arith, select-few (λ (r : Role). eqb (r .group) g) (placedAt t x .roles) (placedAt t x .predicate .roles), role-count, f .roles)
 
   grouped-few : (a n : ℕ) → Few t x → length (grouped (placedAt t x) a n) ≤ 6 * n
   unfolding upFrom flatMap
   grouped-few a zero f = omega arith
-  grouped-few a (suc n) f = omega (arith, length-append (groupRoles (placedAt t x) a) (grouped (placedAt t x) (suc a) n), group-few a f, grouped-few (suc a) n f)
+  grouped-few a (suc n) f = omega
+      (arith, length-append (groupRoles (placedAt t x) a) (grouped (placedAt t x) (suc a) n), group-few a f, grouped-few (suc a) n f)
 
   pub order-few : Few t x → length (order (placedAt t x)) ≤ 42
   order-few f =
-      let long : length (order (placedAt t x)) ≡ length (grouped (placedAt t x) 1 (groupCount (placedAt t x))) + length (groupRoles (placedAt t x) 0) = ap length (order-parts (placedAt t x)) ∙ length-append (grouped (placedAt t x) 1 (groupCount (placedAt t x))) (groupRoles (placedAt t x) 0) in
+      let long : length (order (placedAt t x)) ≡ length (grouped (placedAt t x) 1 (groupCount (placedAt t x))) + length
+      (groupRoles (placedAt t x) 0) = ap length (order-parts (placedAt t x)) ∙ length-append
+      (grouped (placedAt t x) 1 (groupCount (placedAt t x))) (groupRoles (placedAt t x) 0) in
       omega (arith, long, grouped-few 1 (groupCount (placedAt t x)) f, group-few 0 f, group-count, f .groups)
 
   pub parts-few : Few t x → length (parts (placedAt t x)) ≤ 12
@@ -152,22 +160,27 @@ module _ (t : List ℕ) (x : Cursor) where
 
   -- ---- what is written
 
-  pub order-is : {o o₁ o₂ : List ℕ} {at a b : ℕ} → Wrote o at (grouped (placedAt t x) 1 (getD (drop (x .at) t) 3 0)) o₁ a → Wrote o₁ a (groupRoles (placedAt t x) 0) o₂ b
+  pub order-is : {o o₁ o₂ : List ℕ} {at a b : ℕ} → Wrote o at (grouped (placedAt t x) 1 (getD (drop (x .at) t) 3 0)) o₁ a
+      → Wrote o₁ a (groupRoles (placedAt t x) 0) o₂ b
       → Wrote o at (order (placedAt t x)) o₂ b
   order-is w v = wrote-as (wrote-then w v) (rw (← group-count) (sym (order-parts (placedAt t x))))
 
-  pub counts-is : {n : ℕ} {o o₁ o₂ : List ℕ} {at a b : ℕ} → n ≡ length (groupRoles (placedAt t x) 0) → Wrote o at (groupCounts (placedAt t x) (upFrom 1 (getD (drop (x .at) t) 3 0))) o₁ a
+  pub counts-is : {n : ℕ} {o o₁ o₂ : List ℕ} {at a b : ℕ} → n ≡ length (groupRoles (placedAt t x) 0)
+      → Wrote o at (groupCounts (placedAt t x) (upFrom 1 (getD (drop (x .at) t) 3 0))) o₁ a
       → Wrote o₁ a (replicate n 1) o₂ b → Wrote o at (counts (placedAt t x)) o₂ b
   counts-is en w v = wrote-as (wrote-then w v) (rw (en, ← group-count) (sym (counts-parts (placedAt t x))))
 
-  pub parts-is : {n : ℕ} {o o₁ o₂ : List ℕ} {at a b : ℕ} → n ≡ getD (drop (x .at) t) 3 0 → Wrote o at (upFrom (x .groups) n) o₁ a → Wrote o₁ a (groupRoles (placedAt t x) 0) o₂ b
+  pub parts-is : {n : ℕ} {o o₁ o₂ : List ℕ} {at a b : ℕ} → n ≡ getD (drop (x .at) t) 3 0 → Wrote o at (upFrom (x .groups) n) o₁ a
+      → Wrote o₁ a (groupRoles (placedAt t x) 0) o₂ b
       → Wrote o at (map (λ (b : Part). b .own) (parts (placedAt t x))) o₂ b
   unfolding placedAt
-  parts-is en w v = wrote-as (wrote-then w v) (ap (λ (m : ℕ). upFrom (x .groups) m ++ groupRoles (placedAt t x) 0) (en ∙ sym group-count) ∙ sym (own-parts (placedAt t x)))
+  parts-is en w v = wrote-as (wrote-then w v)
+      (ap (λ (m : ℕ). upFrom (x .groups) m ++ groupRoles (placedAt t x) 0) (en ∙ sym group-count) ∙ sym (own-parts (placedAt t x)))
 
 -- ---- the sizes of some sets
 
-pub sizes-more : (c sets : List ℕ) (i : ℕ) {n : ℕ} → i < length sets → n ≡ getD c (getD sets i 0) 0 → Splits (sizesOf c (drop i sets)) (n ∷ []) (sizesOf c (drop (i + 1) sets))
+pub sizes-more : (c sets : List ℕ) (i : ℕ) {n : ℕ} → i < length sets → n ≡ getD c (getD sets i 0) 0
+    → Splits (sizesOf c (drop i sets)) (n ∷ []) (sizesOf c (drop (i + 1) sets))
 sizes-more c sets i h en = record { is = ap (sizesOf c) (drop-cons sets i 0 h) ∙ rw (en, add-one) }
 
 pub sizes-none : (c sets : List ℕ) (i : ℕ) → length sets ≤ i → sizesOf c (drop i sets) ≡ []

@@ -38,7 +38,8 @@ padded-all xs = sym (ap (padded (length xs)) (append-nil xs)) ∙ padded-front x
 module _ (t c : List ℕ) (x : Cursor) (f : Few t x) {s s′ : List ℕ} {n : ℕ} where
   module _ (room : length s ≡ 12) (w : Wrote s 0 (owns c (placedAt t x)) s′ n) where
     fits : length (owns c (placedAt t x)) ≤ length s
-    fits = let long : length (owns c (placedAt t x)) ≡ length (parts (placedAt t x)) = unfold owns in length-map (parts (placedAt t x)) (λ (b : Part). size c (b .own)) in omega (arith, long, parts-few t x f, room)
+    fits = let long : length (owns c (placedAt t x)) ≡ length (parts (placedAt t x)) = unfold owns in length-map (parts (placedAt t x))
+        (λ (b : Part). size c (b .own)) in omega (arith, long, parts-few t x f, room)
 
     pub owns-within : n ≤ length s′
     owns-within = wrote-within w fits
@@ -49,16 +50,19 @@ module _ (t c : List ℕ) (x : Cursor) (f : Few t x) {s s′ : List ℕ} {n : �
     pub owns-front : Small c → Small (take n s′)
     owns-front h = rw (wrote-front w fits) (owns-small c t x h)
 
-    pub rows-planned : (own : ℕ) {o o′ : List ℕ} {at to want : ℕ} → want ≡ getD c own 0 → Wrote o at (steps want (padded n (drop 0 (take n s′)))) o′ to
+    pub rows-planned : (own : ℕ) {o o′ : List ℕ} {at to want : ℕ} → want ≡ getD c own 0
+        → Wrote o at (steps want (padded n (drop 0 (take n s′)))) o′ to
         → Wrote o at (steps (getD c own 0) (owns c (placedAt t x))) o′ to
     rows-planned own ew v =
-        let e : padded n (drop 0 (take n s′)) ≡ owns c (placedAt t x) = ap (padded n) (wrote-front w fits) ∙ ap (λ (m : ℕ). padded m (owns c (placedAt t x))) (wrote-end w fits) ∙ padded-all (owns c (placedAt t x)) in
+        let e : padded n (drop 0 (take n s′)) ≡ owns c (placedAt t x) = ap (padded n) (wrote-front w fits) ∙ ap
+        (λ (m : ℕ). padded m (owns c (placedAt t x))) (wrote-end w fits) ∙ padded-all (owns c (placedAt t x)) in
         wrote-as v (ap₂ {C = List ℕ} (λ a b. steps a b) ew e)
 
     pub owns-wanted : {ks : List ℕ} → Small c → Small ks → Wants (take n s′) ks
     owns-wanted h k = rw (wrote-front w fits) (record { few = omega (arith, fits, room); wanted = owns-small c t x h; counted = k })
 
-    pub parts-planned : (ks rs : List ℕ) {o o′ : List ℕ} {at to : ℕ} → Wrote o at (stepsOfEach (take n s′) ks rs) o′ to → Wrote o at (stepsOfEach (owns c (placedAt t x)) ks rs) o′ to
+    pub parts-planned : (ks rs : List ℕ) {o o′ : List ℕ} {at to : ℕ} → Wrote o at (stepsOfEach (take n s′) ks rs) o′ to
+        → Wrote o at (stepsOfEach (owns c (placedAt t x)) ks rs) o′ to
     parts-planned ks rs v = wrote-as v (ap (λ (l : List ℕ). stepsOfEach l ks rs) (wrote-front w fits))
 
   module _ (room : length s ≡ 42) (w : Wrote s 0 (sizesOf c (order (placedAt t x))) s′ n) where
@@ -71,7 +75,8 @@ module _ (t c : List ℕ) (x : Cursor) (f : Few t x) {s s′ : List ℕ} {n : �
     pub sizes-front : Small c → Small (take n s′)
     sizes-front h = rw (wrote-front w sizes-fit) (sizes-small c (order (placedAt t x)) h)
 
-    pub planned-with : (ws ks : List ℕ) {o o′ : List ℕ} {at to : ℕ} → Wrote o at (stepsOfEach ws ks (take n s′)) o′ to → Wrote o at (stepsOfEach ws ks (sizesOf c (order (placedAt t x)))) o′ to
+    pub planned-with : (ws ks : List ℕ) {o o′ : List ℕ} {at to : ℕ} → Wrote o at (stepsOfEach ws ks (take n s′)) o′ to
+        → Wrote o at (stepsOfEach ws ks (sizesOf c (order (placedAt t x)))) o′ to
     planned-with ws ks v = wrote-as v (ap (stepsOfEach ws ks) (wrote-front w sizes-fit))
 
 pub wants-few : {ws ks : List ℕ} → Wants ws ks → length ws ≤ 100
@@ -95,6 +100,7 @@ module _ (t : List ℕ) (x : Cursor) (f : Few t x) {s s′ : List ℕ} {n : ℕ}
   pub order-listed : {types : List ℕ} → length types ≤ 96 → Listed types (take n s′)
   order-listed h = rw order-front (record { few-types = h; few-roles = order-few t x f })
 
-  pub columns-planned : (d : Diagram) (c types : List ℕ) (rs : List Role) (p : ℕ) {o o′ : List ℕ} {at to : ℕ} → Wrote o at (flatten (mapFrom (columnOf d c types (take n s′)) p rs)) o′ to
+  pub columns-planned : (d : Diagram) (c types : List ℕ) (rs : List Role) (p : ℕ) {o o′ : List ℕ} {at to : ℕ}
+      → Wrote o at (flatten (mapFrom (columnOf d c types (take n s′)) p rs)) o′ to
       → Wrote o at (flatten (mapFrom (columnOf d c types (order (placedAt t x))) p rs)) o′ to
   columns-planned d c types rs p v = wrote-as v (ap (λ (l : List ℕ). flatten (mapFrom (columnOf d c types l) p rs)) order-front)

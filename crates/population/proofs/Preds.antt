@@ -40,7 +40,8 @@ unfolding played
 played-few number i [] = omega arith
 played-few number i (y ∷ ys) = go (eqb y number) (played-few number (suc i) ys)
   where
-    go : (b : Bool) → length (played number (suc i) ys) ≤ length ys → length {A = ℕ} (elim b as (λ _. List ℕ) [ true ↦ i ∷ played number (suc i) ys | false ↦ played number (suc i) ys ]) ≤ suc (length ys)
+    go : (b : Bool) → length (played number (suc i) ys) ≤ length ys
+        → length {A = ℕ} (elim b as (λ _. List ℕ) [ true ↦ i ∷ played number (suc i) ys | false ↦ played number (suc i) ys ]) ≤ suc (length ys)
     go true h = omega arith
     go false h = omega arith
 
@@ -49,7 +50,8 @@ unfolding takenBefore
 taken-small c p [] h = omega arith
 taken-small c p (s ∷ ss) h = go (eqb s p) (taken-small c p ss h)
   where
-    go : (b : Bool) → takenBefore c p ss ≤ 4096 * length ss → elim b as (λ _. ℕ) [ true ↦ 0 | false ↦ size c s + takenBefore c p ss ] ≤ 4096 * suc (length ss)
+    go : (b : Bool) → takenBefore c p ss ≤ 4096 * length ss
+        → elim b as (λ _. ℕ) [ true ↦ 0 | false ↦ size c s + takenBefore c p ss ] ≤ 4096 * suc (length ss)
     go true l = omega arith
     go false l = omega (arith, h .at s)
 
@@ -96,7 +98,14 @@ ready-few r = r .few
 module _ (types : List ℕ) {t c : List ℕ} {x : Cursor} (ready : Ready t c x) {s s′ : List ℕ} {n : ℕ} (room : length s ≡ 24)
     (w : Wrote s 0 (columnsFrom (diagramOf t) c types (order (placedAt t x)) (x .roles) (placedAt t x .predicate .roles)) s′ n) where
   columns-fit : length (columnsFrom (diagramOf t) c types (order (placedAt t x)) (x .roles) (placedAt t x .predicate .roles)) ≤ length s
-  columns-fit = omega (arith, columns-length (diagramOf t) c types (order (placedAt t x)) (x .roles) (placedAt t x .predicate .roles), role-count t x, ready .few .roles, room)
+  columns-fit = omega (
+    arith,
+    columns-length (diagramOf t) c types (order (placedAt t x)) (x .roles)
+        (placedAt t x .predicate .roles),
+    role-count t x,
+    ready .few .roles,
+    room,
+  )
 
   pub columns-within : n ≤ length s′
   columns-within = wrote-within w columns-fit
@@ -131,7 +140,8 @@ unfolding flatMap flatten
 flat-rows f g [] h = refl
 flat-rows f g (i ∷ is) h = ap₂ {C = List ℕ} (λ a b. a ++ b) (h i) (flat-rows f g is h)
 
-module _ {t c : List ℕ} {x : Cursor} (ready : Ready t c x) {columns os ks is is′ : List ℕ} {a : ℕ} (p : Prepared t c x columns os ks) (room : length is ≡ 126)
+module _ {t c : List ℕ} {x : Cursor} (ready : Ready t c x) {columns os ks is is′ : List ℕ} {a : ℕ} (p : Prepared t c x columns os ks)
+    (room : length is ≡ 126)
     (w : Wrote is 0 (stepsOfEach (owns c (placedAt t x)) ks (sizesOf c (order (placedAt t x)))) is′ a) where
   abbrev px : Placed
   px = placedAt t x
@@ -157,19 +167,22 @@ module _ {t c : List ℕ} {x : Cursor} (ready : Ready t c x) {columns os ks is i
       (record {
         few = counts-few t x (ready .few);
         counted = record { at = λ k. omega (arith, counted-small t x (ready .few) .at k) };
-        small = columns-small t c (p .columned .types) (order px) (ready .walk) (ready .sizes) (p .columned .typed .small-enough) (order-few t x (ready .few)) (px .roles) (px .predicate .roles);
+        small = columns-small t c (p .columned .types) (order px) (ready .walk) (ready .sizes) (p .columned .typed .small-enough)
+            (order-few t x (ready .few)) (px .roles) (px .predicate .roles);
         enough = λ i. omega (arith, flat-long c px (p .stepped .rest) rest′ i, order-few t x (ready .few));
       })
 
   row-made : {m : ℕ} → m ≡ getD (drop (x .at) t) 2 0 → (i : ℕ) → rowBy columns m os ks is′ i ≡ row (diagramOf t) c px i
-  row-made em i = rw (columns-whole, outer-whole, p .ks-are, inner-whole, em, ← role-count t x) (row-by (diagramOf t) c px (p .columned .typed .are) (p .stepped .rest) rest′ i)
+  row-made em i = rw (columns-whole, outer-whole, p .ks-are, inner-whole, em, ← role-count t x)
+      (row-by (diagramOf t) c px (p .columned .typed .are) (p .stepped .rest) rest′ i)
 
   pub pred-is : {b at : ℕ} {o o₁ : List ℕ} → Wrote o at (cellsBy columns os ks is′ (getD c (x .own) 0) (getD (drop (x .at) t) 2 0)) o₁ b
       → Wrote o at (cellsOfPred (rows (diagramOf t) c (placedAt t x))) o₁ b
   unfolding cellsBy cellsOfPred rows
   pred-is v =
       let own : getD c (x .own) 0 ≡ size c (px .own) = unfold placedAt in refl in
-      let many : length (map (row (diagramOf t) c px) (upFrom 0 (size c (px .own)))) ≡ size c (px .own) = length-map (upFrom 0 (size c (px .own))) (row (diagramOf t) c px) ∙ length-upFrom 0 (size c (px .own)) in
+      let many : length (map (row (diagramOf t) c px) (upFrom 0 (size c (px .own)))) ≡ size c (px .own) = length-map (upFrom 0 (size c (px .own)))
+      (row (diagramOf t) c px) ∙ length-upFrom 0 (size c (px .own)) in
       let count : ℕ = getD (drop (x .at) t) 2 0 in
       wrote-as v
       (ap₂ {C = List ℕ} (λ k l. k ∷ l) (own ∙ sym many)
@@ -190,12 +203,14 @@ pub few-start : {t : List ℕ} {x : Cursor} {n : ℕ} → Valid t → x ≡ firs
 few-start v ex en = record { each = rw (ex, en) (unfold diagramOf in (λ p m. (v .formed .preds p m .arity .1, v .formed .preds p m .few))) }
 
 module _ {t : List ℕ} {x : Cursor} {n : ℕ} (f : FewLeft t x n) (h : 0 < n) where
-  split : Each (λ (p : Predicate). (length (p .roles) ≤ 6) × (length (p .groups) ≤ 6)) (predOf (drop (x .at) t) ∷ predsIn (n - 1) (drop (x .at + predLength (drop (x .at) t)) t))
+  split : Each (λ (p : Predicate). (length (p .roles) ≤ 6) × (length (p .groups) ≤ 6))
+      (predOf (drop (x .at) t) ∷ predsIn (n - 1) (drop (x .at + predLength (drop (x .at) t)) t))
   split = rw (preds-more t (x .at) n h refl) at (f .each)
 
   pub few-here : Few t x
   unfolding placedAt
-  few-here = let e = split (predOf (drop (x .at) t)) (here refl) in record { roles = omega (arith, role-count t x, e .0); groups = omega (arith, group-count t x, e .1) }
+  few-here = let e = split (predOf (drop (x .at) t))
+      (here refl) in record { roles = omega (arith, role-count t x, e .0); groups = omega (arith, group-count t x, e .1) }
 
   pub few-more : {y : Cursor} → y ≡ nextCursor t x → FewLeft t y (n - 1)
   few-more e = record { each = rw e (λ p m. split p (there m)) }
@@ -207,10 +222,12 @@ module _ (t c : List ℕ) where
   abbrev pub predCells : List Placed → List ℕ
   predCells ys = flatMap cellsOfPred (map (rows (diagramOf t) c) ys)
 
-  pub preds-start : (o : List ℕ) (at : ℕ) {x : Cursor} {n : ℕ} → x ≡ firstCursor t → n ≡ predCount t → Writing o at (predCells (placed (diagramOf t))) o at (predCells (placedLeft n t x))
+  pub preds-start : (o : List ℕ) (at : ℕ) {x : Cursor} {n : ℕ} → x ≡ firstCursor t → n ≡ predCount t
+      → Writing o at (predCells (placed (diagramOf t))) o at (predCells (placedLeft n t x))
   preds-start o at ex en = rw (placed-start t ex en) (writing-start o at (predCells (placed (diagramOf t))))
 
-  pub preds-next : (x : Cursor) (n : ℕ) {y : Cursor} → 0 < n → y ≡ nextCursor t x → Splits (predCells (placedLeft n t x)) (cellsOfPred (rows (diagramOf t) c (placedAt t x))) (predCells (placedLeft (n - 1) t y))
+  pub preds-next : (x : Cursor) (n : ℕ) {y : Cursor} → 0 < n → y ≡ nextCursor t x
+      → Splits (predCells (placedLeft n t x)) (cellsOfPred (rows (diagramOf t) c (placedAt t x))) (predCells (placedLeft (n - 1) t y))
   unfolding flatMap
   preds-next x n h e = record { is = ap predCells (placed-more t x n h e) }
 
@@ -220,7 +237,8 @@ module _ (t c : List ℕ) where
 
 -- ---- all cells
 
-module _ {t s s′ : List ℕ} {n : ℕ} (v : Valid t) (room : length s ≡ 96) (w : Wrote s 0 (map (λ (r : Role). r .type) (allRoles (diagramOf t))) s′ n) where
+module _ {t s s′ : List ℕ} {n : ℕ} (v : Valid t) (room : length s ≡ 96)
+    (w : Wrote s 0 (map (λ (r : Role). r .type) (allRoles (diagramOf t))) s′ n) where
   types-fit : length (map (λ (r : Role). r .type) (allRoles (diagramOf t))) ≤ length s
   types-fit = rw length-map (omega (arith, v .formed .roleCount, room))
 
@@ -230,7 +248,8 @@ module _ {t s s′ : List ℕ} {n : ℕ} (v : Valid t) (room : length s ≡ 96) 
   pub types-listed : RoleTypes t (take n s′)
   types-listed = rw (wrote-front w types-fit) (record { are = refl; small-enough = omega (arith, types-fit, room) })
 
-pub cells-is : (t c : List ℕ) {o o₁ o₂ : List ℕ} {at a b : ℕ} → Wrote o at (flatMap cellsOfType (map (typeValues (diagramOf t) c) (upFrom 0 (length (diagramOf t .types))))) o₁ a
+pub cells-is : (t c : List ℕ) {o o₁ o₂ : List ℕ} {at a b : ℕ}
+    → Wrote o at (flatMap cellsOfType (map (typeValues (diagramOf t) c) (upFrom 0 (length (diagramOf t .types))))) o₁ a
     → Wrote o₁ a (predCells t c (placed (diagramOf t))) o₂ b → Wrote o at (cells (population (diagramOf t) c)) o₂ b
 unfolding cells population
 cells-is t c w v = wrote-then w v

@@ -24,7 +24,8 @@ abbrev pub typesOf : List Role → List ℕ
 typesOf rs = map (λ (r : Role). r .type) rs
 
 module _ (t : List ℕ) (p n : ℕ) where
-  pub type-more : {x : ℕ} → x ≡ getD (drop p t) 0 0 → 0 < n → Splits (typesOf (rolesIn n (drop p t))) (x ∷ []) (typesOf (rolesIn (n - 1) (drop (p + 3) t)))
+  pub type-more : {x : ℕ} → x ≡ getD (drop p t) 0 0 → 0 < n
+      → Splits (typesOf (rolesIn n (drop p t))) (x ∷ []) (typesOf (rolesIn (n - 1) (drop (p + 3) t)))
   type-more e h = record { is = ap typesOf (each-more roleOf 3 t p n h) ∙ rw e }
 
   pub type-none : n ≤ 0 → typesOf (rolesIn n (drop p t)) ≡ []
@@ -35,7 +36,8 @@ unfoldable pub typesIn : List Predicate → List ℕ
 typesIn ps = typesOf (flatMap (λ (p : Predicate). p .roles) ps)
 
 module _ (t : List ℕ) where
-  pub role-types-start : (o : List ℕ) (at : ℕ) {q n : ℕ} → q ≡ firstPredAt t → n ≡ predCount t → Writing o at (typesOf (allRoles (diagramOf t))) o at (typesIn (predsIn n (drop q t)))
+  pub role-types-start : (o : List ℕ) (at : ℕ) {q n : ℕ} → q ≡ firstPredAt t → n ≡ predCount t
+      → Writing o at (typesOf (allRoles (diagramOf t))) o at (typesIn (predsIn n (drop q t)))
   unfolding allRoles diagramOf typesIn
   role-types-start o at eq en = rw (eq, en) (writing-start o at (typesOf (allRoles (diagramOf t))))
 
@@ -45,7 +47,10 @@ module _ (t : List ℕ) where
     unfolding typesIn flatMap
     role-types-more {r} {e} h er ee =
         let rest : List Role = flatMap (λ (p : Predicate). p .roles) (predsIn (n - 1) (drop e t)) in
-        record { is = ap typesIn (preds-more t q n h ee) ∙ map-append (λ (x : Role). x .type) (rolesIn (getD (drop q t) 2 0) (drop 4 (drop q t))) rest ∙ rw (er, ← drop-drop 4 q t) }
+        record {
+          is = ap typesIn (preds-more t q n h ee) ∙ map-append (λ (x : Role). x .type)
+              (rolesIn (getD (drop q t) 2 0) (drop 4 (drop q t))) rest ∙ rw (er, ← drop-drop 4 q t);
+        }
 
     pub role-types-none : n ≤ 0 → typesIn (predsIn n (drop q t)) ≡ []
     unfolding typesIn flatMap
@@ -61,7 +66,8 @@ reached-not {y} {number} set p n = rw (ne-eqb y number n)
 
 module _ (c : List ℕ) (number p : ℕ) where
   taken-cons : (set y : ℕ) (ys : List ℕ) (b e : Bool) → eqb y number ≡ b → eqb set p ≡ e
-      → takenBefore c p (played number set (y ∷ ys)) ≡ elim (b && e) [ true ↦ 0 | false ↦ share b (size c set) + takenBefore c p (played number (suc set) ys) ]
+      → takenBefore c p (played number set (y ∷ ys)) ≡ elim
+      (b && e) [ true ↦ 0 | false ↦ share b (size c set) + takenBefore c p (played number (suc set) ys) ]
   unfolding played takenBefore share
   taken-cons set y ys true true h k = rw (h, played, k, takenBefore)
   taken-cons set y ys true false h k = rw (h, played, k, takenBefore)
@@ -76,26 +82,35 @@ module _ (c : List ℕ) (number p : ℕ) where
 
   module _ (types : List ℕ) (first i set sum : ℕ) (w : Taking types first i set sum) where
     abbrev more : Bool → ℕ
-    more b = elim b [ true ↦ 0 | false ↦ share (eqb (getD types i 0) number) (size c set) + takenBefore c p (played number (suc set) (drop (suc i) types)) ]
+    more b = elim b [
+      | true ↦ 0
+      | false ↦ share (eqb (getD types i 0) number) (size c set) + takenBefore c p
+          (played number (suc set) (drop (suc i) types))
+    ]
 
-    taken-split : {b : Bool} → i < length types → b ≡ (eqb (getD types i 0) number && eqb set p) → takenBefore c p (played number set (drop i types)) ≡ more b
+    taken-split : {b : Bool} → i < length types → b ≡ (eqb (getD types i 0) number && eqb set p)
+        → takenBefore c p (played number set (drop i types)) ≡ more b
     taken-split h eb =
         ap (λ (l : List ℕ). takenBefore c p (played number set l)) (drop-cons types i 0 h)
         ∙ taken-cons set (getD types i 0) (drop (suc i) types) (eqb (getD types i 0) number) (eqb set p) refl refl
         ∙ ap more (sym eb)
 
-    pub taken-here : {b : Bool} → i < length types → b ≡ (eqb (getD types i 0) number && eqb set p) → b ≡ true → sum ≡ takenBefore c p (played number first types)
+    pub taken-here : {b : Bool} → i < length types → b ≡ (eqb (getD types i 0) number && eqb set p) → b ≡ true
+        → sum ≡ takenBefore c p (played number first types)
     taken-here h eb e = let none : takenBefore c p (played number set (drop i types)) ≡ 0 = taken-split h eb ∙ ap more e in omega (arith, w .is, none)
 
-    pub taken-more : {b : Bool} {s : ℕ} → b ≡ false → b ≡ (eqb (getD types i 0) number && eqb set p) → i < length types → s ≡ share (eqb (getD types i 0) number) (getD c set 0)
+    pub taken-more : {b : Bool} {s : ℕ} → b ≡ false → b ≡ (eqb (getD types i 0) number && eqb set p) → i < length types
+        → s ≡ share (eqb (getD types i 0) number) (getD c set 0)
         → Taking types first (i + 1) (set + 1) (sum + s)
     taken-more {b} {s} e eb h es =
-        let split : takenBefore c p (played number set (drop i types)) ≡ s + takenBefore c p (played number (suc set) (drop (suc i) types)) = taken-split h eb ∙ ap more e ∙ rw es in
+        let split : takenBefore c p (played number set (drop i types)) ≡ s + takenBefore c p
+        (played number (suc set) (drop (suc i) types)) = taken-split h eb ∙ ap more e ∙ rw es in
         record { is = rw (add-one set, add-one i) (omega (arith, w .is, split)) }
 
     pub taken-all : length types ≤ i → sum ≡ takenBefore c p (played number first types)
     taken-all h =
-        let none : takenBefore c p (played number set (drop i types)) ≡ 0 = ap (λ (l : List ℕ). takenBefore c p (played number set l)) (drop-of-length-le types h) ∙ nothing in
+        let none : takenBefore c p (played number set (drop i types)) ≡ 0 = ap (λ (l : List ℕ). takenBefore c p (played number set l))
+        (drop-of-length-le types h) ∙ nothing in
         omega (arith, w .is, none)
       where
         nothing : takenBefore c p (played number set []) ≡ 0
@@ -114,11 +129,13 @@ share-no n {y} {number} e = rw (ne-eqb y number e)
 module _ (p : ℕ) (list : List ℕ) (i n : ℕ) {total : ℕ} (w : n + position p (drop i list) ≡ total) where
   pub position-here : i < length list → getD list i 0 ≡ p → n ≡ total
   unfolding position
-  position-here h e = let none : position p (drop i list) ≡ 0 = ap (position p) (drop-cons list i 0 h) ∙ rw (eq-eqb (getD list i 0) p e, position) in omega (arith, w, none)
+  position-here h e = let none : position p (drop i list) ≡ 0 = ap (position p) (drop-cons list i 0 h) ∙ rw
+      (eq-eqb (getD list i 0) p e, position) in omega (arith, w, none)
 
   pub position-more : i < length list → (getD list i 0 ≡ p → ⊥) → (n + 1) + position p (drop (i + 1) list) ≡ total
   unfolding position
-  position-more h e = let more : position p (drop i list) ≡ suc (position p (drop (suc i) list)) = ap (position p) (drop-cons list i 0 h) ∙ rw (ne-eqb (getD list i 0) p e, position) in rw (add-one i) (omega (arith, w, more))
+  position-more h e = let more : position p (drop i list) ≡ suc (position p (drop (suc i) list)) = ap (position p) (drop-cons list i 0 h) ∙ rw
+      (ne-eqb (getD list i 0) p e, position) in rw (add-one i) (omega (arith, w, more))
 
   pub position-all : length list ≤ i → n ≡ total
   unfolding position

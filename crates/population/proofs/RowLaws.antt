@@ -36,14 +36,24 @@ lookup-position p (s ∷ ss) (j ∷ js) e = go (eqb s p) (lookup-position p ss j
 
 -- ---- the roles of a type
 
-pub played-select : (number i : ℕ) (rs : List Role) → played number i (map (λ (r : Role). r .type) rs) ≡ select (λ (r : Role). eqb (r .type) number) i rs
+pub played-select : (number i : ℕ) (rs : List Role)
+    → played number i (map (λ (r : Role). r .type) rs) ≡ select (λ (r : Role). eqb (r .type) number) i rs
 unfolding played select
 played-select number i [] = refl
 played-select number i (r ∷ rs) = go (eqb (r .type) number) (played-select number (suc i) rs)
   where
     go : (b : Bool) → played number (suc i) (map (λ (r : Role). r .type) rs) ≡ select (λ (r : Role). eqb (r .type) number) (suc i) rs
-        → _≡_ {A = List ℕ} (elim b as (λ _. List ℕ) [ true ↦ i ∷ played number (suc i) (map (λ (r : Role). r .type) rs) | false ↦ played number (suc i) (map (λ (r : Role). r .type) rs) ])
-        (elim b as (λ _. List ℕ) [ true ↦ i ∷ select (λ (r : Role). eqb (r .type) number) (suc i) rs | false ↦ select (λ (r : Role). eqb (r .type) number) (suc i) rs ])
+        → _≡_ {A = List ℕ} (elim b as
+        (λ _. List ℕ) [
+          | true ↦ i ∷ played number (suc i) (map (λ (r : Role). r .type) rs)
+          | false ↦ played number (suc i)
+              (map (λ (r : Role). r .type) rs)
+        ])
+        (elim b as (λ _. List ℕ) [
+          | true ↦ i ∷ select (λ (r : Role). eqb (r .type) number) (suc i) rs
+          | false ↦ select
+              (λ (r : Role). eqb (r .type) number) (suc i) rs
+        ])
     go true h = ap {B = List ℕ} (λ l. i ∷ l) h
     go false h = h
 
@@ -63,7 +73,8 @@ module _ (c : List ℕ) (x : Placed) where
   sizes-are : (bs : List Part) → flatMap roleSizes bs ≡ map (size c) (flatMap (λ (b : Part). b .roles) bs)
   unfolding flatMap
   sizes-are [] = refl
-  sizes-are (b ∷ bs) = ap {B = List ℕ} (λ l. roleSizes b ++ l) (sizes-are bs) ∙ sym (map-append (size c) (b .roles) (flatMap (λ (b : Part). b .roles) bs))
+  sizes-are (b ∷ bs) = ap {B = List ℕ} (λ l. roleSizes b ++ l) (sizes-are bs) ∙ sym
+      (map-append (size c) (b .roles) (flatMap (λ (b : Part). b .roles) bs))
 
   abbrev pub inner : List ℕ
   inner = stepsOfEach (owns c x) (counts x) (sizesOf c (order x))
@@ -99,15 +110,19 @@ module _ (c : List ℕ) (x : Placed) where
     pub flat-is : tuplesIn (inner ++ rest′) (counts x) (tupleIn (outer ++ rest) (length (counts x)) i) ≡ flat
     unfolding partTuple
     flat-is =
-        ap₂ {C = List ℕ} (λ s k. tuplesIn (s ++ rest′) k (tupleIn (outer ++ rest) (length (counts x)) i)) inner-is (sym counts-are ∙ sym (append-nil _))
-        ∙ ap (tuplesIn (flatMap (λ (b : Part). steps (want b) (roleSizes b)) (parts x) ++ rest′) (map (λ (b : Part). length (roleSizes b)) (parts x) ++ [])) parts-row
+        ap₂ {C = List ℕ} (λ s k. tuplesIn (s ++ rest′) k (tupleIn (outer ++ rest) (length (counts x)) i)) inner-is
+        (sym counts-are ∙ sym (append-nil _))
+        ∙ ap (tuplesIn (flatMap (λ (b : Part). steps (want b) (roleSizes b)) (parts x) ++ rest′)
+        (map (λ (b : Part). length (roleSizes b)) (parts x) ++ [])) parts-row
         ∙ each-row want roleSizes (parts x) (partsOfRow c (parts x) (x .own) i) rest′ [] parts-long
 
   tuple-long : (b : Part) (j : ℕ) → length (partTuple c b j) ≡ length (b .roles)
   unfolding partTuple
-  tuple-long b j = ap length (sym (steps-row (want b) (roleSizes b) [] j)) ∙ length-tupleIn (steps (want b) (roleSizes b) ++ []) (length (roleSizes b)) j ∙ length-map (b .roles) (size c)
+  tuple-long b j = ap length (sym (steps-row (want b) (roleSizes b) [] j)) ∙ length-tupleIn (steps (want b) (roleSizes b) ++ [])
+      (length (roleSizes b)) j ∙ length-map (b .roles) (size c)
 
-  flat-length : (bs : List Part) (js : List ℕ) → length js ≡ length bs → length (flatten (zipWith (partTuple c) bs js)) ≡ length (flatMap (λ (b : Part). b .roles) bs)
+  flat-length : (bs : List Part) (js : List ℕ) → length js ≡ length bs
+      → length (flatten (zipWith (partTuple c) bs js)) ≡ length (flatMap (λ (b : Part). b .roles) bs)
   unfolding flatten zipWith flatMap
   flat-length [] [] e = refl
   flat-length [] (j ∷ js) e = absurd (omega arith)
@@ -117,11 +132,13 @@ module _ (c : List ℕ) (x : Placed) where
       ∙ ap₂ {C = ℕ} (λ m n. m + n) (tuple-long b j) (flat-length bs js (omega arith))
       ∙ sym (length-append (b .roles) (flatMap (λ (b : Part). b .roles) bs))
 
-  pub flat-long : (rest rest′ : List ℕ) (i : ℕ) → length (tuplesIn (inner ++ rest′) (counts x) (tupleIn (outer ++ rest) (length (counts x)) i)) ≡ length (order x)
+  pub flat-long : (rest rest′ : List ℕ) (i : ℕ)
+      → length (tuplesIn (inner ++ rest′) (counts x) (tupleIn (outer ++ rest) (length (counts x)) i)) ≡ length (order x)
   unfolding order
   flat-long rest rest′ i = ap length (flat-is rest rest′ i) ∙ flat-length (parts x) (partsOfRow c (parts x) (x .own) i) (parts-long rest rest′ i)
 
-  steps-length : (bs : List Part) → length (flatMap (λ (b : Part). steps (want b) (roleSizes b)) bs) ≡ 3 * length (flatMap (λ (b : Part). b .roles) bs)
+  steps-length : (bs : List Part)
+      → length (flatMap (λ (b : Part). steps (want b) (roleSizes b)) bs) ≡ 3 * length (flatMap (λ (b : Part). b .roles) bs)
   unfolding flatMap
   steps-length [] = refl
   steps-length (b ∷ bs) =
@@ -155,7 +172,9 @@ module _ (d : Diagram) (c : List ℕ) (x : Placed) {types : List ℕ} (are : typ
         sym (lookup-position p (order x) byParts (flat-long c x rest rest′ i))
         ∙ ap (lookup p (order x)) (flat-is c x rest rest′ i)
 
-    cells-are : (p : ℕ) (rs : List Role) → each (cellOf byParts) 4 (length rs) (columnsFrom d c types (order x) p rs) ≡ mapFrom (λ (p : ℕ) (r : Role). memberOf d c p r (indexInRow c x i p)) p rs
+    cells-are : (p : ℕ) (rs : List Role)
+        → each (cellOf byParts) 4 (length rs) (columnsFrom d c types (order x) p rs) ≡ mapFrom
+        (λ (p : ℕ) (r : Role). memberOf d c p r (indexInRow c x i p)) p rs
     unfolding each mapFrom flatten cellOf memberOf
     cells-are p [] = refl
     cells-are p (r ∷ rs) =
@@ -163,6 +182,7 @@ module _ (d : Diagram) (c : List ℕ) (x : Placed) {types : List ℕ} (are : typ
         (ap₂ {C = ℕ} (λ k j. firstValue (d .types) (index (r .type)) + (k + j) % size c (index (r .type))) (starts (r .type) p) (place p))
         (cells-are (suc p) rs)
 
-    pub row-by : rowBy (columnsFrom d c types (order x) (x .roles) (x .predicate .roles)) (length (x .predicate .roles)) (outer c x ++ rest) (counts x) (inner c x ++ rest′) i ≡ row d c x i
+    pub row-by : rowBy (columnsFrom d c types (order x) (x .roles) (x .predicate .roles)) (length (x .predicate .roles)) (outer c x ++ rest)
+        (counts x) (inner c x ++ rest′) i ≡ row d c x i
     unfolding rowBy row
     row-by = cells-are (x .roles) (x .predicate .roles)

@@ -28,7 +28,8 @@ member-is flat place ei er = er ∙ ap (λ (n : ℕ). getD flat n 0) ei
 pub member-small : (flat : List ℕ) (i : ℕ) {r : ℕ} → Under 2000000 flat → r ≡ getD (drop 0 flat) i 0 → r ≤ 2000000
 member-small flat i u e = rw e (u .at i)
 
-pub cell-is : (flat s : List ℕ) {v n k m j r : ℕ} → v ≡ getD s 0 0 → n ≡ getD s 1 0 → k ≡ getD s 2 0 → m ≡ getD s 3 0 → j ≡ getD flat m 0 → r ≡ (k + j) % n → v + r ≡ cellOf flat s
+pub cell-is : (flat s : List ℕ) {v n k m j r : ℕ} → v ≡ getD s 0 0 → n ≡ getD s 1 0 → k ≡ getD s 2 0 → m ≡ getD s 3 0 → j ≡ getD flat m 0
+    → r ≡ (k + j) % n → v + r ≡ cellOf flat s
 unfolding cellOf
 cell-is flat s ev en ek em ej er = rw (er, ej, em, ek, en, ev)
 
@@ -72,7 +73,8 @@ module _ {inner ks rows : List ℕ} (r : Room inner ks rows) where
   pub room-indices : Indices rows
   room-indices = record { at = λ k. omega (arith, r .indices k) }
 
-  module _ {s s′ : List ℕ} {n : ℕ} (room : length s ≡ 42) (w : Stored s 0 (tuplesIn inner ks rows) s′) (en : n ≡ length (tuplesIn inner ks rows)) where
+  module _ {s s′ : List ℕ} {n : ℕ} (room : length s ≡ 42) (w : Stored s 0 (tuplesIn inner ks rows) s′)
+      (en : n ≡ length (tuplesIn inner ks rows)) where
     flat-front : take n s′ ≡ tuplesIn inner ks rows
     flat-front = rw en (stored-front w (omega (arith, r .enough, room)))
 
@@ -82,7 +84,8 @@ module _ {inner ks rows : List ℕ} (r : Room inner ks rows) where
     pub flat-small : Under 2000000 (take n s′)
     flat-small = rw flat-front (tuples-under inner ks rows (record { at = λ k. omega (arith, r .indices k) }))
 
-    pub row-of : (columns : List ℕ) (count : ℕ) {o o′ : List ℕ} {at to : ℕ} → Wrote o at (each (cellOf (take n s′)) 4 count columns) o′ to → Wrote o at (each (cellOf (tuplesIn inner ks rows)) 4 count columns) o′ to
+    pub row-of : (columns : List ℕ) (count : ℕ) {o o′ : List ℕ} {at to : ℕ} → Wrote o at (each (cellOf (take n s′)) 4 count columns) o′ to
+        → Wrote o at (each (cellOf (tuplesIn inner ks rows)) 4 count columns) o′ to
     row-of columns count v = wrote-as v (ap (λ (l : List ℕ). each (cellOf l) 4 count columns) flat-front)
 
 module _ {columns outer ks inner : List ℕ} (p : Planned columns outer ks inner) where
@@ -94,7 +97,8 @@ module _ {columns outer ks inner : List ℕ} (p : Planned columns outer ks inner
 
   module _ {s s′ : List ℕ} (i : ℕ) (room : length s ≡ 12) (w : Stored s 0 (tupleIn outer (length ks) i) s′) where
     rows-front : take (length ks) s′ ≡ tupleIn outer (length ks) i
-    rows-front = ap (λ (m : ℕ). take m s′) (sym (length-tupleIn outer (length ks) i)) ∙ stored-front w (omega (arith, length-tupleIn outer (length ks) i, p .few, room))
+    rows-front = ap (λ (m : ℕ). take m s′) (sym (length-tupleIn outer (length ks) i)) ∙ stored-front w
+        (omega (arith, length-tupleIn outer (length ks) i, p .few, room))
 
     pub rows-within : length ks ≤ length s′
     rows-within = omega (arith, p .few, room, stored-long w)
@@ -107,7 +111,9 @@ module _ {columns outer ks inner : List ℕ} (p : Planned columns outer ks inner
       enough = p .enough i;
     })
 
-    pub row-is : (count : ℕ) {o o′ : List ℕ} {at to : ℕ} → Wrote o at (each (cellOf (tuplesIn inner ks (take (length ks) s′))) 4 count columns) o′ to → Wrote o at (rowBy columns count outer ks inner i) o′ to
+    pub row-is : (count : ℕ) {o o′ : List ℕ} {at to : ℕ}
+        → Wrote o at (each (cellOf (tuplesIn inner ks (take (length ks) s′))) 4 count columns) o′ to
+        → Wrote o at (rowBy columns count outer ks inner i) o′ to
     unfolding rowBy
     row-is count v = wrote-as v (ap (λ (l : List ℕ). each (cellOf (tuplesIn inner ks l)) 4 count columns) rows-front)
 

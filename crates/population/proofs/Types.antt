@@ -31,7 +31,8 @@ size-small c i h e = rw e (h .at i)
 
 -- ---- a number of the type at an index
 
-getD-each : {A : Type 0} (make : List ℕ → A) (k n : ℕ) (f : A → ℕ) (s : List ℕ) (a : ℕ) → a < n → getD (map f (each make k n s)) a 0 ≡ f (make (drop (k * a) s))
+getD-each : {A : Type 0} (make : List ℕ → A) (k n : ℕ) (f : A → ℕ) (s : List ℕ) (a : ℕ) → a < n
+    → getD (map f (each make k n s)) a 0 ≡ f (make (drop (k * a) s))
 unfolding each
 getD-each make k zero f s a h = absurd (omega arith)
 getD-each make k (suc n) f s zero h = rw mul-zero
@@ -83,11 +84,13 @@ module _ (ts : List ObjectType) where
   unfolding root
   root-start a = refl
 
-  root-step : (k x : ℕ) (b : Bool) → eqb (superAt ts x) 0 ≡ b → rootWithin (suc k) ts x ≡ elim b [ true ↦ x | false ↦ rootWithin k ts (index (superAt ts x)) ]
+  root-step : (k x : ℕ) (b : Bool) → eqb (superAt ts x) 0 ≡ b
+      → rootWithin (suc k) ts x ≡ elim b [ true ↦ x | false ↦ rootWithin k ts (index (superAt ts x)) ]
   unfolding rootWithin
   root-step k x b e = rw (e, rootWithin)
 
-  root-split : (k x : ℕ) (b : Bool) → 0 < k → eqb (superAt ts x) 0 ≡ b → rootWithin k ts x ≡ elim b [ true ↦ x | false ↦ rootWithin (k - 1) ts (index (superAt ts x)) ]
+  root-split : (k x : ℕ) (b : Bool) → 0 < k → eqb (superAt ts x) 0 ≡ b
+      → rootWithin k ts x ≡ elim b [ true ↦ x | false ↦ rootWithin (k - 1) ts (index (superAt ts x)) ]
   root-split zero x b h e = absurd (omega arith)
   root-split (suc k) x b h e =
       let same : k ≡ suc k - 1 = omega arith in
@@ -112,7 +115,8 @@ module _ (ts : List ObjectType) where
 -- ---- cells
 
 module _ (d : Diagram) (c : List ℕ) where
-  pub type-is : (a : ℕ) {n v : ℕ} {o o₁ o₂ : List ℕ} {at b e : ℕ} → n ≡ getD c a 0 → v ≡ firstValue (d .types) a → Wrote o at (n ∷ []) o₁ b → Wrote o₁ b (upFrom v n) o₂ e
+  pub type-is : (a : ℕ) {n v : ℕ} {o o₁ o₂ : List ℕ} {at b e : ℕ} → n ≡ getD c a 0 → v ≡ firstValue (d .types) a → Wrote o at (n ∷ []) o₁ b
+      → Wrote o₁ b (upFrom v n) o₂ e
       → Wrote o at (cellsOfType (typeValues d c a)) o₂ e
   unfolding cellsOfType typeValues
   type-is a {n} {v} en ev w u = wrote-as (wrote-then w u) (rw (en, ev, length-upFrom (firstValue (d .types) a) (getD c a 0)))
@@ -130,5 +134,7 @@ module _ (d : Diagram) (c : List ℕ) where
   types-none a zero h = refl
   types-none a (suc n) h = absurd (omega arith)
 
-pub types-start : (t c o : List ℕ) (at : ℕ) {n : ℕ} → n ≡ typeCount t → Writing o at (typeCells (diagramOf t) c 0 (length (diagramOf t .types))) o at (typeCells (diagramOf t) c 0 n)
-types-start t c o at e = let long : length (diagramOf t .types) ≡ typeCount t = unfold diagramOf in each-length typeOf 6 (typeCount t) (drop 2 t) in rw (e, ← long) (writing-start o at (typeCells (diagramOf t) c 0 (length (diagramOf t .types))))
+pub types-start : (t c o : List ℕ) (at : ℕ) {n : ℕ} → n ≡ typeCount t
+    → Writing o at (typeCells (diagramOf t) c 0 (length (diagramOf t .types))) o at (typeCells (diagramOf t) c 0 n)
+types-start t c o at e = let long : length (diagramOf t .types) ≡ typeCount t = unfold diagramOf in each-length typeOf 6 (typeCount t)
+    (drop 2 t) in rw (e, ← long) (writing-start o at (typeCells (diagramOf t) c 0 (length (diagramOf t .types))))

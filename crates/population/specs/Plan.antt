@@ -57,7 +57,8 @@ share false n = 0
 -- `types` has the types of all roles, `roles` the roles of the parts
 abbrev pub columnOf : Diagram → List ℕ → List ℕ → List ℕ → ℕ → Role → List ℕ
 columnOf d c types roles p r =
-    firstValue (d .types) (index (r .type)) ∷ size c (index (r .type)) ∷ takenBefore c p (played (r .type) (firstRole d) types) ∷ position p roles ∷ []
+    firstValue (d .types) (index (r .type)) ∷ size c (index (r .type)) ∷ takenBefore c p (played (r .type) (firstRole d) types) ∷ position p roles
+    ∷ []
 
 -- There are not too many of them
 pub record Listed (types roles : List ℕ) : Type 0 where

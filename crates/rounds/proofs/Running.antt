@@ -148,7 +148,8 @@ module _ (b : Bool) (xs lower starts entries start : List ℕ) where
 
         pub turn-falls : {x : List ℕ} → d ≡ false → x ≡ c′ → slack lower x < slack lower c
         turn-falls t ex =
-            subst⁻¹ (λ (y : List ℕ). slack lower y < slack lower c) ex (falls (decode xs) lower start n c c′ (w .running) (w .known .made) q p ed t paired)
+            subst⁻¹ (λ (y : List ℕ). slack lower y < slack lower c) ex
+            (falls (decode xs) lower start n c c′ (w .running) (w .known .made) q p ed t paired)
 
         pub turn-more : {x x′ : List ℕ} → d ≡ false → x ≡ c′ → x′ ≡ round (decode xs) c′
             → Turning b xs lower starts entries start (n + 1) x x′
@@ -158,7 +159,8 @@ module _ (b : Bool) (xs lower starts entries start : List ℕ) where
             record {
               bounds = w .bounds;
               running =
-                  subst⁻¹ (Running (decode xs) lower start (n + 1)) ex (more (decode xs) lower start n c c′ (w .running) (w .known .made) q p ed t paired);
+                  subst⁻¹ (Running (decode xs) lower start (n + 1)) ex
+                  (more (decode xs) lower start n c c′ (w .running) (w .known .made) q p ed t paired);
               known = record {
                 index = subst⁻¹ (Indexed b xs starts entries) long (w .known .index);
                 sets = omega (arith, w .known .sets);

@@ -62,7 +62,8 @@ module _ (t : List ℕ) (at i : ℕ) where
 
 -- ---- one step of a pairing
 
-pub entry-is : (s : List ℕ) (j i : ℕ) {c t q r : ℕ} → c ≡ getD s (3 * j + 1) 0 → t ≡ getD s (3 * j + 2) 0 → q ≡ i / c → r ≡ (i + q) % t → r ≡ entryAt s j i
+pub entry-is : (s : List ℕ) (j i : ℕ) {c t q r : ℕ} → c ≡ getD s (3 * j + 1) 0 → t ≡ getD s (3 * j + 2) 0 → q ≡ i / c → r ≡ (i + q) % t
+    → r ≡ entryAt s j i
 unfolding entryAt
 entry-is s j i ec et eq er = rw (er, eq, ec, et)
 

@@ -11,7 +11,8 @@ use Rattle.buffer.specs.Laws.{wrote-then, wrote-as, wrote-none}
 use Rattle.tuples.specs.Steps.{padded, stepsFrom, steps, Small}
 use Rattle.tuples.specs.StepsLaws.{padded-more, padded-none}
 
-pub step-is : {o o₁ o₂ o₃ : List ℕ} {at a b c x y z : ℕ} → Wrote o at (x ∷ []) o₁ a → Wrote o₁ a (y ∷ []) o₂ b → Wrote o₂ b (z ∷ []) o₃ c → Wrote o at (x ∷ y ∷ z ∷ []) o₃ c
+pub step-is : {o o₁ o₂ o₃ : List ℕ} {at a b c x y z : ℕ} → Wrote o at (x ∷ []) o₁ a → Wrote o₁ a (y ∷ []) o₂ b → Wrote o₂ b (z ∷ []) o₃ c
+    → Wrote o at (x ∷ y ∷ z ∷ []) o₃ c
 step-is w v u = wrote-then (wrote-then w v) u
 
 pub item-small : (s : List ℕ) (p : ℕ) {t : ℕ} → Small s → t ≡ getD (drop p s) 0 0 → t ≤ 4096

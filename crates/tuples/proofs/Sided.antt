@@ -33,7 +33,8 @@ module _ (s ks is : List ℕ) (n p : ℕ) {m : ℕ} (h : n < length is) (em : m 
   long : length here ≡ m
   long = length-tupleIn (drop p s) m (getD is n 0)
 
-  pub sided-more : {o whole o′ o″ : List ℕ} {at to : ℕ} → Storing o at whole o′ to (tuplesIn (drop p s) (drop n ks) (drop n is)) → Stored o′ to here o″
+  pub sided-more : {o whole o′ o″ : List ℕ} {at to : ℕ} → Storing o at whole o′ to (tuplesIn (drop p s) (drop n ks) (drop n is))
+      → Stored o′ to here o″
       → Storing o at whole o″ (to + m) left
   sided-more {to = to} w v = storing-more w v split (ap (λ (x : ℕ). to + x) (sym long))
 

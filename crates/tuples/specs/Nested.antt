@@ -29,7 +29,8 @@ pub record Indices (is : List ℕ) : Type 0 where
 
 module _ (ws ks s : List ℕ) (i p : ℕ) where
   pub each-steps-more : {k w q : ℕ} → i < length ws → k ≡ getD (drop i ks) 0 0 → w ≡ getD ws i 0 → q ≡ p + k
-      → Splits (stepsOfEach (drop i ws) (drop i ks) (drop p s)) (steps w (padded k (drop p s))) (stepsOfEach (drop (i + 1) ws) (drop (i + 1) ks) (drop q s))
+      → Splits (stepsOfEach (drop i ws) (drop i ks) (drop p s)) (steps w (padded k (drop p s)))
+      (stepsOfEach (drop (i + 1) ws) (drop (i + 1) ks) (drop q s))
   unfolding stepsOfEach
   each-steps-more {k} h ek ew eq = record {
     is =
@@ -77,7 +78,8 @@ module _ {A : Type 0} (want : A → ℕ) (sizes : A → List ℕ) where
   unfolding stepsOfEach flatMap
   each-steps [] = refl
   each-steps (a ∷ xs) =
-      ap₂ {C = List ℕ} (λ x y. steps (want a) x ++ stepsOfEach (map want xs) (map setCount xs) y) (padded-front (sizes a) (flatMap sizes xs)) (drop-at (sizes a) (flatMap sizes xs) (setCount a) refl)
+      ap₂ {C = List ℕ} (λ x y. steps (want a) x ++ stepsOfEach (map want xs) (map setCount xs) y) (padded-front (sizes a) (flatMap sizes xs))
+      (drop-at (sizes a) (flatMap sizes xs) (setCount a) refl)
       ∙ ap {B = List ℕ} (λ l. stepsOf a ++ l) (each-steps xs)
 
   -- whatever stands behind the steps and the counts
@@ -91,5 +93,6 @@ module _ {A : Type 0} (want : A → ℕ) (sizes : A → List ℕ) where
       rw (append-assoc (stepsOf a) (flatMap stepsOf xs) rest)
       (ap₂ {C = List ℕ} (λ x y. x ++ y)
       (steps-row (want a) (sizes a) (flatMap stepsOf xs ++ rest) i)
-      (ap (λ (l : List ℕ). tuplesIn l (map setCount xs ++ rest′) is) (drop-at (stepsOf a) (flatMap stepsOf xs ++ rest) (3 * setCount a) (length-steps (want a) (sizes a)))
+      (ap (λ (l : List ℕ). tuplesIn l (map setCount xs ++ rest′) is)
+      (drop-at (stepsOf a) (flatMap stepsOf xs ++ rest) (3 * setCount a) (length-steps (want a) (sizes a)))
       ∙ each-row xs is rest rest′ (omega arith)))

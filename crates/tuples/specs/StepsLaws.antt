@@ -12,7 +12,8 @@ use Rattle.tuples.specs.Steps.{padded, stepsFrom, steps, entryAt, indexB
 pub length-tupleIn : (s : List ℕ) (k i : ℕ) → length (tupleIn s k i) ≡ k
 unfolding tupleIn
 length-tupleIn s zero i = refl
-length-tupleIn s (suc k) i = length-append (tupleIn s k (indexBefore s k i)) (entryAt s k i ∷ []) ∙ omega (arith, length-tupleIn s k (indexBefore s k i))
+length-tupleIn s (suc k) i = length-append (tupleIn s k (indexBefore s k i)) (entryAt s k i ∷ []) ∙ omega
+    (arith, length-tupleIn s k (indexBefore s k i))
 
 -- The first `m` steps, whatever follows them, give the rows of `r`
 record Gives (pre : List ℕ) (m : ℕ) (r : Tuples) : Type 0 where
@@ -47,7 +48,8 @@ module _ (want : ℕ) where
       rows rest i =
           rw (append-assoc pre step rest)
           (ap₂ {C = List ℕ} (λ l x. l ++ (x ∷ []))
-          (g .rows (step ++ rest) (indexBefore (pre ++ (step ++ rest)) m i) ∙ ap (r .row) (index-here pre m (g .long) (r .count) (lcm (r .count) t) t rest i))
+          (g .rows (step ++ rest) (indexBefore (pre ++ (step ++ rest)) m i) ∙ ap (r .row)
+          (index-here pre m (g .long) (r .count) (lcm (r .count) t) t rest i))
           (entry-here pre m (g .long) (r .count) (lcm (r .count) t) t rest i))
 
   gives-all : (pre : List ℕ) (m : ℕ) (r : Tuples) (ts : List ℕ) → Gives pre m r
@@ -63,7 +65,11 @@ module _ (want : ℕ) where
 
   first-gives : (s : ℕ) → Gives (0 ∷ 0 ∷ 0 ∷ []) 1 (single s)
   unfolding tupleIn single entryAt
-  first-gives s = record { long = refl; rows = λ rest i. ap {B = List ℕ} (λ x. x ∷ []) (mod-zero (i + i / 0) ∙ ap (λ (q : ℕ). i + q) (div-zero i) ∙ add-zero i) }
+  first-gives s = record {
+    long = refl;
+    rows = λ rest i. ap {B = List ℕ} (λ x. x ∷ [])
+        (mod-zero (i + i / 0) ∙ ap (λ (q : ℕ). i + q) (div-zero i) ∙ add-zero i);
+  }
 
 -- The row of a prepared pairing, whatever stands behind its steps, is the row of the pairing
 pub steps-row : (want : ℕ) (sizes rest : List ℕ) (i : ℕ) → tupleIn (steps want sizes ++ rest) (length sizes) i ≡ tuples want sizes .row i

@@ -201,7 +201,14 @@ module _ (d : Diagram) (w : WellFormed d) where
       let played : Limit = record { target = a; most = sum (rolesOfType d (suc a)) } in
       let ps : List Limit = onlyIf (not (isIndependent t)) played in
       let one : size (played ∷ []) ≤ 100 =
-      omega (arith, size-sum a (rolesOfType d (suc a)) [], size-none, select-le (λ (r : Role). eqb (r .type) (suc a)) (firstRole d) (allRoles d), w .roleCount) in
+      omega (
+        arith,
+        size-sum a (rolesOfType d (suc a)) [],
+        size-none,
+        select-le (λ (r : Role). eqb (r .type) (suc a)) (firstRole d)
+            (allRoles d),
+        w .roleCount,
+      ) in
       omega (
         arith,
         size-append ss ps,

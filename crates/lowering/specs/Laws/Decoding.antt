@@ -46,7 +46,8 @@ module _ (pre : List ℕ) (k t f : ℕ) (ss rest : List ℕ) where
   decode-here m =
       let long : length pre + 4 ≤ length all = omega (arith, length-append pre (k ∷ t ∷ f ∷ length ss ∷ (ss ++ rest))) in
       rw (le-ltb (length all) (length pre + 4) long, decodeFrom)
-      (ap₂ (λ (l : Limit) (n : ℕ). l ∷ decodeFrom m all (length pre + 4 + n)) limit-here (getD-append-add pre (k ∷ t ∷ f ∷ length ss ∷ (ss ++ rest)) 3 0))
+      (ap₂ (λ (l : Limit) (n : ℕ). l ∷ decodeFrom m all (length pre + 4 + n)) limit-here
+      (getD-append-add pre (k ∷ t ∷ f ∷ length ss ∷ (ss ++ rest)) 3 0))
 
   -- the limits after this one start where its operands end
   decode-rest : (m : ℕ) (ls : List Limit) → ((pre′ : List ℕ) → decodeFrom m (pre′ ++ rest) (length pre′) ≡ ls)

@@ -12,7 +12,8 @@ use Rattle.population.proofs.count_pred_cells.Statement.{statement}
 use Rattle.population.proofs.count_pred_cells.Tie as tie
 
 abbrev Inv-loop : tie.InvT-loop
-Inv-loop t c left₀ x₀ n₀ left x n = Reach x left × (n + 5000000001 * left ≤ 160000000032) × Counted n (predCells t c (placedLeft left t x)) (predCells t c (placed (diagramOf t)))
+Inv-loop t c left₀ x₀ n₀ left x n = Reach x left × (n + 5000000001 * left ≤ 160000000032) × Counted n (predCells t c (placedLeft left t x))
+    (predCells t c (placed (diagramOf t)))
 
 abbrev μ-loop : tie.MeasureT-loop
 μ-loop t c left₀ x₀ n₀ left x n = left

@@ -13,7 +13,8 @@ use Rattle.population.proofs.push_preds.Statement.{statement}
 use Rattle.population.proofs.push_preds.Tie as tie
 
 abbrev Inv-loop : tie.InvT-loop
-Inv-loop t c types out₀ at left₀ x₀ to₀ out left x to = Reach x left × FewLeft t x left × Writing out₀ at (predCells t c (placed (diagramOf t))) out to (predCells t c (placedLeft left t x))
+Inv-loop t c types out₀ at left₀ x₀ to₀ out left x to = Reach x left × FewLeft t x left × Writing out₀ at
+    (predCells t c (placed (diagramOf t))) out to (predCells t c (placedLeft left t x))
 
 abbrev μ-loop : tie.MeasureT-loop
 μ-loop t c types out₀ at left₀ x₀ to₀ out left x to = left

@@ -9,7 +9,8 @@ use Rattle.population.proofs.push_rows.Statement.{statement}
 use Rattle.population.proofs.push_rows.Tie as tie
 
 abbrev Inv-loop : tie.InvT-loop
-Inv-loop columns count outer ks inner size out₀ at left₀ i₀ to₀ out left i to = (i + left ≤ 4096) × Writing out₀ at (rowsFrom columns count outer ks inner 0 size) out to (rowsFrom columns count outer ks inner i left)
+Inv-loop columns count outer ks inner size out₀ at left₀ i₀ to₀ out left i to = (i + left ≤ 4096) × Writing out₀ at
+    (rowsFrom columns count outer ks inner 0 size) out to (rowsFrom columns count outer ks inner i left)
 
 abbrev μ-loop : tie.MeasureT-loop
 μ-loop columns count outer ks inner size out₀ at left₀ i₀ to₀ out left i to = left

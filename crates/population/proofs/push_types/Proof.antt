@@ -11,7 +11,8 @@ use Rattle.population.proofs.push_types.Statement.{statement}
 use Rattle.population.proofs.push_types.Tie as tie
 
 abbrev Inv-loop : tie.InvT-loop
-Inv-loop t c out₀ at left₀ a₀ to₀ out left a to = (a + left ≤ 32) × Writing out₀ at (typeCells (diagramOf t) c 0 (length (diagramOf t .types))) out to (typeCells (diagramOf t) c a left)
+Inv-loop t c out₀ at left₀ a₀ to₀ out left a to = (a + left ≤ 32) × Writing out₀ at
+    (typeCells (diagramOf t) c 0 (length (diagramOf t .types))) out to (typeCells (diagramOf t) c a left)
 
 abbrev μ-loop : tie.MeasureT-loop
 μ-loop t c out₀ at left₀ a₀ to₀ out left a to = left

@@ -11,7 +11,8 @@ use Rattle.population.proofs.push_types_of.Statement.{statement}
 use Rattle.population.proofs.push_types_of.Tie as tie
 
 abbrev Inv-loop : tie.InvT-loop
-Inv-loop t q count out₀ at left₀ p₀ to₀ out left p to = (p + 3 * left ≤ 400000000) × Writing out₀ at (typesOf (rolesIn count (drop q t))) out to (typesOf (rolesIn left (drop p t)))
+Inv-loop t q count out₀ at left₀ p₀ to₀ out left p to = (p + 3 * left ≤ 400000000) × Writing out₀ at (typesOf (rolesIn count (drop q t))) out to
+    (typesOf (rolesIn left (drop p t)))
 
 abbrev μ-loop : tie.MeasureT-loop
 μ-loop t q count out₀ at left₀ p₀ to₀ out left p to = left

@@ -12,7 +12,8 @@ use Rattle.population.proofs.role_types.Statement.{statement}
 use Rattle.population.proofs.role_types.Tie as tie
 
 abbrev Inv-loop : tie.InvT-loop
-Inv-loop t out₀ left₀ q₀ to₀ out left q to = (q + 5000000 * left ≤ 200000000) × Writing out₀ 0 (typesOf (allRoles (diagramOf t))) out to (typesIn (predsIn left (drop q t)))
+Inv-loop t out₀ left₀ q₀ to₀ out left q to = (q + 5000000 * left ≤ 200000000) × Writing out₀ 0 (typesOf (allRoles (diagramOf t))) out to
+    (typesIn (predsIn left (drop q t)))
 
 abbrev μ-loop : tie.MeasureT-loop
 μ-loop t out₀ left₀ q₀ to₀ out left q to = left

@@ -59,7 +59,8 @@ module _ (test : Role → Bool) where
   unfolding select
   select-append i [] qs = let e : i ≡ i + 0 = omega arith in ap (λ (n : ℕ). select test n qs) e
   select-append i (r ∷ rs) qs =
-      go (test r) (select-append (suc i) rs qs ∙ ap (λ (n : ℕ). select test (suc i) rs ++ select test n qs) (let e : suc i + length rs ≡ i + suc (length rs) = omega arith in e))
+      go (test r) (select-append (suc i) rs qs ∙ ap (λ (n : ℕ). select test (suc i) rs ++ select test n qs)
+      (let e : suc i + length rs ≡ i + suc (length rs) = omega arith in e))
     where
       go : (b : Bool) → select test (suc i) (rs ++ qs) ≡ select test (suc i) rs ++ select test (i + suc (length rs)) qs
           → elim b as (λ _. List ℕ) [ true ↦ i ∷ select test (suc i) (rs ++ qs) | false ↦ select test (suc i) (rs ++ qs) ]

@@ -32,7 +32,8 @@ module _ {A : Type 0} (make : List ℕ → A) (k : ℕ) (lineOf : A → Line) (m
   each-back [] s = refl
   each-back (a ∷ xs) s =
       rw append-assoc
-      (ap₂ {C = List A} (λ y ys. y ∷ ys) (made a (values (map lineOf xs) ++ s)) (ap (each make k (length xs)) (drop-at (lineOf a .values) (values (map lineOf xs) ++ s) k (long a))
+      (ap₂ {C = List A} (λ y ys. y ∷ ys) (made a (values (map lineOf xs) ++ s))
+      (ap (each make k (length xs)) (drop-at (lineOf a .values) (values (map lineOf xs) ++ s) k (long a))
       ∙ each-back xs s))
 
   each-long : (xs : List A) → length (values (map lineOf xs)) ≡ k * length xs
@@ -80,7 +81,8 @@ module _ (p : Predicate) (s : List ℕ) where
   pred-whole : values (linesOfPred p) ++ s ≡ whole
   unfolding whole head roles groups linesOfPred flatMap values lineOfPred
   pred-whole =
-      ap (λ (x : List ℕ). head ++ x) (ap (λ (x : List ℕ). x ++ s) (values-append (map lineOfRole (p .roles)) (map lineOfGroup (p .groups))) ∙ append-assoc roles groups s)
+      ap (λ (x : List ℕ). head ++ x)
+      (ap (λ (x : List ℕ). x ++ s) (values-append (map lineOfRole (p .roles)) (map lineOfGroup (p .groups))) ∙ append-assoc roles groups s)
 
   groups-at : drop (4 + 3 * length (p .roles)) whole ≡ groups ++ s
   unfolding whole head roles lineOfPred
@@ -139,7 +141,8 @@ module _ (d : Diagram) where
       let long : length (1 ∷ length (d .types) ∷ types) ≡ 2 + 6 * length (d .types) = omega (arith, types-long (d .types)) in
       drop-at (1 ∷ length (d .types) ∷ types) from-preds (2 + 6 * length (d .types)) long
 
-  preds-after : drop (3 + 6 * length (d .types)) (1 ∷ length (d .types) ∷ (types ++ from-preds)) ≡ values (flatMap linesOfPred (d .preds)) ++ (length (allRoles d) ∷ [])
+  preds-after : drop (3 + 6 * length (d .types)) (1 ∷ length (d .types) ∷ (types ++ from-preds)) ≡ values (flatMap linesOfPred (d .preds)) ++
+      (length (allRoles d) ∷ [])
   unfolding from-preds
   preds-after =
       let e : 3 + 6 * length (d .types) ≡ 2 + 6 * length (d .types) + 1 = omega arith in

@@ -100,7 +100,8 @@ pred-small types p h f =
     let few : length (p .groups) ≤ 999999 = omega (arith, f .few) in
     small-append (lineOfPred p ∷ map lineOfRole (p .roles)) (map lineOfGroup (p .groups))
     (small-cons (lineOfPred p) (map lineOfRole (p .roles))
-    (under-cons (omega (arith, f .sizes, f .most)) (under-cons (omega (arith, f .most)) (under-cons (omega (arith, f .arity .1)) (under-cons few (under-nil 999999)))))
+    (under-cons (omega (arith, f .sizes, f .most))
+    (under-cons (omega (arith, f .most)) (under-cons (omega (arith, f .arity .1)) (under-cons few (under-nil 999999)))))
     (small-each lineOfRole (p .roles) (λ r m. role-small types (length (p .groups)) r h few (f .roles r m))))
     (small-each lineOfGroup (p .groups) (each-of (GroupForm (p .roles)) _ (group-small (p .roles)) 1 (p .groups) (f .groups)))
 
@@ -114,8 +115,10 @@ module _ (d : Diagram) (w : WellFormed d) where
       let few : length (d .types) ≤ 999999 = omega (arith, w .typeCount .1) in
       small-append _ _
       (small-append _ _
-      (small-cons _ _ (count-small 1 (omega arith)) (small-cons _ _ (count-small (length (d .types)) few) (types-small 1 (d .types) (omega (arith, w .typeCount .1)) (w .types))))
-      (small-cons _ _ (count-small (length (d .preds)) (omega (arith, w .predCount .1))) (small-flat linesOfPred (d .preds) (λ p m. pred-small (length (d .types)) p few (w .preds p m)))))
+      (small-cons _ _ (count-small 1 (omega arith))
+      (small-cons _ _ (count-small (length (d .types)) few) (types-small 1 (d .types) (omega (arith, w .typeCount .1)) (w .types))))
+      (small-cons _ _ (count-small (length (d .preds)) (omega (arith, w .predCount .1)))
+      (small-flat linesOfPred (d .preds) (λ p m. pred-small (length (d .types)) p few (w .preds p m)))))
       (small-cons _ _ (count-small (length (allRoles d)) (omega (arith, w .roleCount))) small-nil)
 
 -- Every accepted table is valid

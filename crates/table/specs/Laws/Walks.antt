@@ -87,7 +87,8 @@ module _ {A : Type 0} (f : Predicate → List A) (i : ℕ) (counted : (s : List 
 
   count-all : (s : List ℕ) (n m total : ℕ) → m + length (flatMap f (predsIn n s)) ≡ total → n ≤ 0 → m ≡ total
   unfolding flatMap
-  count-all s n m total w h = let none : length (flatMap f (predsIn n s)) ≡ 0 = ap (λ (ps : List Predicate). length (flatMap f ps)) (preds-none n s h) in omega (arith, none, w)
+  count-all s n m total w h = let none : length (flatMap f (predsIn n s)) ≡ 0 = ap (λ (ps : List Predicate). length (flatMap f ps))
+      (preds-none n s h) in omega (arith, none, w)
 
 abbrev pub RolesLeft : List ℕ → ℕ → ℕ → ℕ → Type 0
 RolesLeft t at n m = m + length (flatMap (λ (p : Predicate). p .roles) (predsIn n (drop at t))) ≡ length (allRoles (diagramOf t))
@@ -111,7 +112,8 @@ module _ (t : List ℕ) (at n m : ℕ) where
 
   pub groups-all : GroupsLeft t at n m → n ≤ 0 → m ≡ length (allGroups (diagramOf t))
   groups-all =
-      count-all (λ (p : Predicate). p .groups) 3 (λ s. each-length _ 2 (getD s 3 0) (drop (4 + 3 * getD s 2 0) s)) (drop at t) n m (length (allGroups (diagramOf t)))
+      count-all (λ (p : Predicate). p .groups) 3 (λ s. each-length _ 2 (getD s 3 0) (drop (4 + 3 * getD s 2 0) s)) (drop at t) n m
+      (length (allGroups (diagramOf t)))
 
   module _ {e r : ℕ} where
     pub roles-more : RolesLeft t at n m → 0 < n → e ≡ at + predLength (drop at t) → r ≡ getD (drop at t) 2 0 → RolesLeft t e (n - 1) (m + r)
@@ -121,4 +123,5 @@ module _ (t : List ℕ) (at n m : ℕ) where
     pub groups-more : GroupsLeft t at n m → 0 < n → e ≡ at + predLength (drop at t) → r ≡ getD (drop at t) 3 0
         → GroupsLeft t e (n - 1) (m + r)
     groups-more =
-        count-more (λ (p : Predicate). p .groups) 3 (λ s. each-length _ 2 (getD s 3 0) (drop (4 + 3 * getD s 2 0) s)) t at n m (length (allGroups (diagramOf t)))
+        count-more (λ (p : Predicate). p .groups) 3 (λ s. each-length _ 2 (getD s 3 0) (drop (4 + 3 * getD s 2 0) s)) t at n m
+        (length (allGroups (diagramOf t)))

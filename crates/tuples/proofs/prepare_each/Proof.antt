@@ -11,7 +11,8 @@ use Rattle.tuples.proofs.prepare_each.Statement.{statement}
 use Rattle.tuples.proofs.prepare_each.Tie as tie
 
 abbrev Inv-loop : tie.InvT-loop
-Inv-loop wants counts sizes out₀ i₀ from₀ to₀ out i from to = (i ≤ length wants) × (from ≤ 4096 * i) × Writing out₀ 0 (stepsOfEach wants counts sizes) out to (stepsOfEach (drop i wants) (drop i counts) (drop from sizes))
+Inv-loop wants counts sizes out₀ i₀ from₀ to₀ out i from to = (i ≤ length wants) × (from ≤ 4096 * i) × Writing out₀ 0
+    (stepsOfEach wants counts sizes) out to (stepsOfEach (drop i wants) (drop i counts) (drop from sizes))
 
 abbrev μ-loop : tie.MeasureT-loop
 μ-loop wants counts sizes out₀ i₀ from₀ to₀ out i from to = length wants - i

@@ -12,7 +12,8 @@ use Rattle.writer.proofs.push_each_pred.Statement.{statement}
 use Rattle.writer.proofs.push_each_pred.Tie as tie
 
 abbrev Inv-loop : tie.InvT-loop
-Inv-loop t out₀ at left₀ p₀ to₀ out left p to = (p + 5000000 * left ≤ 200000000) × Writing out₀ at (predLines (diagramOf t .preds)) out to (predLines (predsIn left (drop p t)))
+Inv-loop t out₀ at left₀ p₀ to₀ out left p to = (p + 5000000 * left ≤ 200000000) × Writing out₀ at (predLines (diagramOf t .preds)) out to
+    (predLines (predsIn left (drop p t)))
 
 abbrev μ-loop : tie.MeasureT-loop
 μ-loop t out₀ at left₀ p₀ to₀ out left p to = left

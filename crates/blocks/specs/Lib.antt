@@ -1,0 +1,4 @@
+pub mod Blocks
+pub mod Cuts
+pub mod Places
+pub mod Extents

@@ -1,0 +1,179 @@
+// Tests of the columns and rows that stand in a slice of cells: members, sublists, occurrences.
+ghost use mathlib.Core.Path.{_≡_};
+ghost use mathlib.Core.List.{map};
+ghost use Prim.Native.Nat.{_≤_, _<_};
+ghost use lib.Dec.{eqb};
+ghost use lib.ListN.{length, getD, take, drop};
+ghost use Rattle.counting.specs.Lists.{same, combination};
+ghost use Rattle.counting.specs.Distinct.{all, member, occurrences, within};
+ghost use Rattle.counting.specs.Totals.{bit};
+ghost use Rattle.orm.specs.Form.{inRange, _to_};
+ghost use Rattle.columns.specs.Values.{valuesIn, keysIn, occurring};
+
+// `count` cells, the first at `start` and each `step` after the one before.
+pub struct Column {
+    pub start: usize,
+    pub step: usize,
+    pub count: usize,
+}
+
+// `count` rows of `width` cells, the first at `start`.
+pub struct Rows {
+    pub start: usize,
+    pub width: usize,
+    pub count: usize,
+}
+
+pub fn index(x: u32) -> usize
+    ensures { λ r. ⌜ r ≡ x ⌝ }
+    ensures { λ r. ⌜ r < 4294967296 ⌝ }
+{
+    x as usize
+}
+
+// The cell j places behind `at`; 0 past the end.
+pub fn cell(s: &[u32], at: usize, j: usize) -> u32
+    ensures { λ r. ⌜ r ≡ getD (drop at (now (s .entry))) j 0 ⌝ }
+{
+    if s.len() <= at {
+        return 0;
+    }
+    if s.len() - at <= j {
+        return 0;
+    }
+    s[at + j]
+}
+
+// `step` places on from `at`, and no further than the end.
+pub fn next(s: &[u32], at: usize, step: usize) -> usize
+    ensures { λ r. ⌜ drop r (now (s .entry)) ≡ drop step (drop at (now (s .entry))) ⌝ }
+    ensures { λ r. ⌜ r ≤ length (now (s .entry)) ⌝ }
+{
+    if s.len() <= at {
+        return s.len();
+    }
+    if s.len() - at <= step {
+        return s.len();
+    }
+    at + step
+}
+
+// x stands in the column.
+pub fn found(s: &[u32], column: Column, x: u32) -> bool
+    ensures { λ r. ⌜ r ≡ member eqb x (valuesIn (now (s .entry)) column) ⌝ }
+{
+    let mut at = column.start;
+    let mut left = column.count;
+    while 0 < left {
+        if cell(s, at, 0) == x {
+            return true;
+        }
+        at = next(s, at, column.step);
+        left -= 1;
+    }
+    false
+}
+
+// Every value of the first column stands in the second.
+pub fn within(s: &[u32], column: Column, other: Column) -> bool
+    ensures { λ r. ⌜ r ≡ within eqb (valuesIn (now (s .entry)) column) (valuesIn (now (s .entry)) other) ⌝ }
+{
+    let mut at = column.start;
+    let mut left = column.count;
+    while 0 < left {
+        if !found(s, other, cell(s, at, 0)) {
+            return false;
+        }
+        at = next(s, at, column.step);
+        left -= 1;
+    }
+    true
+}
+
+pub fn in_range(low: u32, high: u32, x: usize) -> bool
+    ensures { λ r. ⌜ r ≡ inRange (low to high) x ⌝ }
+{
+    if x < index(low) {
+        return false;
+    }
+    x <= index(high)
+}
+
+// Every value of the column is `low` to `high`.
+pub fn all_in_range(s: &[u32], column: Column, low: u32, high: u32) -> bool
+    ensures { λ r. ⌜ r ≡ all (inRange (low to high)) (valuesIn (now (s .entry)) column) ⌝ }
+{
+    let mut at = column.start;
+    let mut left = column.count;
+    while 0 < left {
+        if !in_range(low, high, index(cell(s, at, 0))) {
+            return false;
+        }
+        at = next(s, at, column.step);
+        left -= 1;
+    }
+    true
+}
+
+// Cell j of the row of `width` cells that starts at `at`; 0 past its end.
+pub fn row_cell(s: &[u32], at: usize, width: usize, j: usize) -> u32
+    ensures { λ r. ⌜ r ≡ getD (take width (drop at (now (s .entry)))) j 0 ⌝ }
+{
+    if width <= j {
+        return 0;
+    }
+    cell(s, at, j)
+}
+
+// The rows that start at a and at b hold the same in the columns `js`.
+pub fn same_key(s: &[u32], width: usize, js: &[u32], a: usize, b: usize) -> bool
+    ensures { λ r. ⌜ r ≡ same (combination (now (js .entry)) (take width (drop a (now (s .entry))))) (combination (now (js .entry)) (take width (drop b (now (s .entry))))) ⌝ }
+{
+    let mut i = 0;
+    while i < js.len() {
+        let j = index(js[i]);
+        if row_cell(s, a, width, j) != row_cell(s, b, width, j) {
+            return false;
+        }
+        i += 1;
+    }
+    true
+}
+
+fn bit(b: bool) -> usize
+    ensures { λ r. ⌜ r ≡ bit b ⌝ }
+    ensures { λ r. ⌜ r ≤ 1 ⌝ }
+{
+    if b { 1 } else { 0 }
+}
+
+// How many rows hold in the columns `js` what the row that starts at `a` holds there.
+pub fn occurrences(s: &[u32], rows: Rows, js: &[u32], a: usize) -> usize
+    ensures { λ r. ⌜ r ≡ occurrences same (combination (now (js .entry)) (take (rows .width) (drop a (now (s .entry))))) (keysIn (now (s .entry)) rows (now (js .entry))) ⌝ }
+{
+    let mut at = rows.start;
+    let mut left = rows.count;
+    let mut n: usize = 0;
+    while 0 < left {
+        n += bit(same_key(s, rows.width, js, a, at));
+        at = next(s, at, rows.width);
+        left -= 1;
+    }
+    n
+}
+
+// What each row holds in the columns `js`, `low` to `high` rows hold.
+pub fn occurring(s: &[u32], rows: Rows, js: &[u32], low: u32, high: u32) -> bool
+    ensures { λ r. ⌜ r ≡ occurring low high (keysIn (now (s .entry)) rows (now (js .entry))) (keysIn (now (s .entry)) rows (now (js .entry))) ⌝ }
+{
+    let mut at = rows.start;
+    let mut left = rows.count;
+    while 0 < left {
+        if !in_range(low, high, occurrences(s, rows, js, at)) {
+            return false;
+        }
+        at = next(s, at, rows.width);
+        left -= 1;
+    }
+    true
+}

@@ -1,0 +1,39 @@
+-- `playing::in_preds` meets its contract. The search of the predicates left comes to the whole search.
+-- Assumes nothing.
+use Prim.Native.Nat.{_+_, _*_, _≤_}
+use lib.Dec.{eqb}
+use Rattle.counting.specs.Distinct.{member}
+use Rattle.table.specs.Positions.{diagramOf}
+use Rattle.playing.specs.Playing.{playedBy, populationOf}
+use Rattle.playing.proofs.Searched.{InPredsLeft, in-preds-start, in-preds-none, in-preds-here, in-preds-more}
+use borrow.Author.Needs.{needs}
+use Rattle.playing.proofs.in_preds.Statement.{statement}
+use Rattle.playing.proofs.in_preds.Tie as tie
+
+abbrev Inv-loop : tie.InvT-loop
+Inv-loop t cells x number pred₀ at₀ left₀ pred at left =
+    (pred + 5000000 * left ≤ 200000000)
+    × InPredsLeft t cells x number (member eqb x (playedBy (diagramOf t) (populationOf t cells) number)) pred at left
+
+abbrev μ-loop : tie.MeasureT-loop
+μ-loop t cells x number pred₀ at₀ left₀ pred at left = left
+
+pub in-preds-spec : {M : Type 1} → statement M
+in-preds-spec =
+    tie.close
+    (tie.spec
+    Inv-loop
+    μ-loop
+    (λ c κs. search needs)
+    (λ c κs. search needs)
+    (λ c κs. search needs)
+    (λ c. search (needs, in-preds-start))
+    (λ c κs. search needs)
+    (λ c. search (needs, in-preds-here))
+    (λ c κs. search needs)
+    (λ c κs. search needs)
+    (λ c κs. search needs)
+    (λ c. search needs)
+    (λ c. search needs)
+    (λ c. search (needs, in-preds-more))
+    (λ c. search (needs, in-preds-none)))

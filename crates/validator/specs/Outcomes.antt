@@ -1,0 +1,13 @@
+-- What `validate` answers, in document 01's numbers: its contract rests on this file and on orm.
+use Rattle.orm.specs.Constraints.{Answer, valid, breaks}
+use Rattle.orm.specs.Outcome.{Outcome, refused, accepted}
+use Rattle.grammar.specs.Fault.{numberOf}
+use Rattle.validator.specs.declared.ValidateAnswer.{ValidateAnswer}
+use Rattle.validator.specs.declared.ValidateAnswer.the-variants.{Valid, Breaks, Refused, CellsEnd}
+
+-- Of each answer: yes, the lowest broken K with the lowest number that breaks it, or a refusal's number, place and round
+abbrev pub validateOf : ValidateAnswer → Outcome Answer
+validateOf Valid = accepted valid
+validateOf (Breaks constraint number) = accepted (breaks constraint number)
+validateOf (Refused fault line) = refused (numberOf fault) line 0
+validateOf (CellsEnd at) = refused 9 at 0

@@ -1,0 +1,36 @@
+-- `command::print_cells` meets its contract. What populating promises decides what is printed.
+-- Assumes nothing.
+use Rattle.command.proofs.Prints.{table-walkable, sizes-208, fill-faulty, fill-emptied, fill-short, cells-within, cells-count, fill-printed}
+use borrow.Author.Needs.{needs}
+use Rattle.command.proofs.print_cells.Statement.{statement}
+use Rattle.command.proofs.print_cells.Tie as tie
+
+pub print-cells-spec : {M : Type 1} → statement M
+print-cells-spec =
+    tie.close
+    (tie.spec
+    (λ c κs. search needs)
+    (λ c. search needs)
+    (λ c κs. search needs)
+    (λ c κs. search needs)
+    (λ c. search needs)
+    (λ c κs. search needs)
+    (λ c κs. search needs)
+    (λ c. search needs)
+    (λ c κs. search needs)
+    (λ c. search needs)
+    (λ c. search (needs, cells-within))
+    (λ c. search (needs, cells-count))
+    (λ c κs. (search (needs, table-walkable), search (needs, sizes-208)))
+    (λ c. search needs)
+    (λ c. search needs)
+    (λ c. search (needs, fill-faulty))
+    (λ c. search needs)
+    (λ c. search needs)
+    (λ c. search (needs, fill-emptied))
+    (λ c. search needs)
+    (λ c. search needs)
+    (λ c. search (needs, fill-short))
+    (λ c. search needs)
+    (λ c. search needs)
+    (λ c. search (needs, fill-printed)))

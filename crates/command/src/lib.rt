@@ -1,0 +1,145 @@
+// The program's standard output, as a function of its standard input: reading, check and populating,
+// and the report or the refusal.
+ghost use mathlib.Core.Path.{_≡_};
+ghost use mathlib.Core.List.{[], _∷_};
+ghost use Prim.Native.Nat.{_≤_};
+ghost use lib.ListN.{length};
+ghost use Rattle.orm.specs.Program.{program};
+ghost use Rattle.grammar.specs.Fault.{numberOf};
+ghost use Rattle.buffer.specs.Written.{Wrote};
+ghost use Rattle.command.specs.Reports.{refusalLine, textReport, tableReport, Read, Settled};
+
+fn number_of(fault: grammar::Fault) -> usize
+    ensures { λ r. ⌜ r ≡ numberOf fault ⌝ }
+{
+    match fault {
+        grammar::Fault::Malformed => 1,
+        grammar::Fault::OutOfRange => 2,
+        grammar::Fault::Unknown => 3,
+        grammar::Fault::Disordered => 4,
+        grammar::Fault::Unnamed => 5,
+        grammar::Fault::Miscounted => 6,
+    }
+}
+
+// `refused=NUMBER,PLACE,ROUND`
+fn push_refusal(out: &mut [u8], number: usize, place: usize, round: usize) -> usize
+    ensures { λ r. ⌜ Wrote (now (out .entry)) 0 (refusalLine number place round) (now (out .exit)) r ⌝ }
+{
+    let a = buffer::bytes::append(out, 0, b"refused=");
+    let b = numerals::push_value(out, a, number, 2);
+    let c = numerals::push_value(out, b, place, 1);
+    numerals::push_value(out, c, round, 0)
+}
+
+// What is printed where the sizes have settled; `cells` is scratch.
+fn print_cells(
+    table: &[u32],
+    sizes: &[u32],
+    rounds: u32,
+    cells: &mut [u32],
+    out: &mut [u8],
+) -> usize
+    requires { ⌜ Settled (now table) (now sizes) rounds ⌝ }
+    requires { ⌜ length (now cells) ≡ 16000 ⌝ }
+    ensures { λ r. ⌜ Wrote (now (out .entry)) 0 (tableReport (now (table .entry))) (now (out .exit)) r ⌝ }
+{
+    let answer = populate::populate(table, cells);
+    match answer {
+        populate::PopulateAnswer::Refused { fault, line } => push_refusal(
+            out,
+            number_of(fault),
+            line,
+            0,
+        ),
+        populate::PopulateAnswer::Unsatisfiable { set, round } => {
+            push_refusal(out, 7, set, table::index(round))
+        }
+        populate::PopulateAnswer::TooShort { needed } => push_refusal(out, 8, needed, 0),
+        populate::PopulateAnswer::Accepted { length, rounds: _ } => {
+            report::push_report(out, table, rounds, sizes, &cells[..length])
+        }
+    }
+}
+
+fn cell_space() -> [u32; 16000] {
+    [0u32; 16000]
+}
+
+fn print_settled(table: &[u32], sizes: &[u32], rounds: u32, out: &mut [u8]) -> usize
+    requires { ⌜ Settled (now table) (now sizes) rounds ⌝ }
+    ensures { λ r. ⌜ Wrote (now (out .entry)) 0 (tableReport (now (table .entry))) (now (out .exit)) r ⌝ }
+{
+    let mut cells = cell_space();
+    print_cells(table, sizes, rounds, &mut cells, out)
+}
+
+// What is printed of a table that was read; `sizes` is scratch.
+fn print_sizes(table: &[u32], sizes: &mut [u32], out: &mut [u8]) -> usize
+    requires { ⌜ Read (now table) ⌝ }
+    requires { ⌜ length (now sizes) ≡ 208 ⌝ }
+    ensures { λ r. ⌜ Wrote (now (out .entry)) 0 (tableReport (now (table .entry))) (now (out .exit)) r ⌝ }
+{
+    let answer = bounds::check(table, sizes);
+    match answer {
+        bounds::CheckAnswer::Refused { fault, line } => push_refusal(
+            out,
+            number_of(fault),
+            line,
+            0,
+        ),
+        bounds::CheckAnswer::Unsatisfiable { set, round } => {
+            push_refusal(out, 7, set, table::index(round))
+        }
+        bounds::CheckAnswer::TooShort { needed } => push_refusal(out, 8, needed, 0),
+        bounds::CheckAnswer::Accepted { length, rounds } => {
+            print_settled(table, &sizes[..length], rounds, out)
+        }
+    }
+}
+
+fn set_space() -> [u32; 208] {
+    [0u32; 208]
+}
+
+fn print_table(table: &[u32], out: &mut [u8]) -> usize
+    requires { ⌜ Read (now table) ⌝ }
+    ensures { λ r. ⌜ Wrote (now (out .entry)) 0 (tableReport (now (table .entry))) (now (out .exit)) r ⌝ }
+{
+    let mut sizes = set_space();
+    print_sizes(table, &mut sizes, out)
+}
+
+// What is printed of a text; `table` is scratch.
+fn print_text(text: &[u8], table: &mut [u32], out: &mut [u8]) -> usize
+    requires { ⌜ length (now table) ≡ 708 ⌝ }
+    ensures { λ r. ⌜ Wrote (now (out .entry)) 0 (textReport (now (text .entry))) (now (out .exit)) r ⌝ }
+{
+    let answer = reader::read(text, table);
+    match answer {
+        reader::ReadAnswer::Refused { fault, line } => push_refusal(out, number_of(fault), line, 0),
+        reader::ReadAnswer::TooShort { needed } => push_refusal(out, 8, needed, 0),
+        reader::ReadAnswer::Accepted { length } => print_table(&table[..length], out),
+    }
+}
+
+fn table_space() -> [u32; 708] {
+    [0u32; 708]
+}
+
+fn print_input(text: &[u8], out: &mut [u8]) -> usize
+    ensures { λ r. ⌜ Wrote (now (out .entry)) 0 (textReport (now (text .entry))) (now (out .exit)) r ⌝ }
+{
+    let mut table = table_space();
+    print_text(text, &mut table, out)
+}
+
+// Standard output of standard input, of which 4,096 bytes count, as far as the buffer has room.
+pub fn run(input: &[u8], out: &mut [u8]) -> usize
+    ensures { λ r. ⌜ Wrote (now (out .entry)) 0 (program (now (input .entry))) (now (out .exit)) r ⌝ }
+{
+    if 4096 < input.len() {
+        return print_input(&input[..4096], out);
+    }
+    print_input(input, out)
+}

@@ -30,7 +30,7 @@ pub enum Verdict {
 fn values_differ(t: &[u32], cells: &[u32], ty: usize, at: usize) -> bool
     ensures { λ r. ⌜ r ≡ K1 (typeOf (drop ty (now (t .entry)))) (membersAt (drop at (now (cells .entry)))) ⌝ }
 {
-    ranks::differ(cells, blocks::members(cells, at))
+    runs::differ(cells, blocks::members(cells, at))
 }
 
 // K2: its size is MIN to MAX.
@@ -87,7 +87,7 @@ fn rows_differ(t: &[u32], cells: &[u32], pred: usize, at: usize) -> bool
     requires { ⌜ PredHere (now t) (now cells) pred at ⌝ }
     ensures { λ r. ⌜ r ≡ K5 (predAt (now (t .entry)) pred) (rowsHere (now (t .entry)) (now (cells .entry)) pred at) ⌝ }
 {
-    ranks::rows_differ(cells, blocks::rows(cells, at, blocks::width(t, pred)))
+    runs::rows_differ(cells, blocks::rows(cells, at, blocks::width(t, pred)))
 }
 
 // K6: its size is MIN to MAX.
@@ -208,7 +208,7 @@ fn group_keeps(t: &[u32], cells: &[u32], pred: usize, at: usize, g: u32, line: u
     let mut js = six();
     let n = group_columns(t, pred, g, &mut js);
     let rows = blocks::rows(cells, at, blocks::width(t, pred));
-    ranks::occurring(
+    runs::occurring(
         cells,
         rows,
         &js[..n],

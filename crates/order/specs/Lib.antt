@@ -1,2 +1,4 @@
-pub mod Lexical
-pub mod Claims
+pub mod Rows
+pub mod Merge
+pub mod Values
+pub mod Parts

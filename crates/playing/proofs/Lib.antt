@@ -1,2 +1,2 @@
 pub mod Searched
-pub mod Noted
+pub mod Marking

@@ -1,5 +1,5 @@
 -- K10 role by role: a value stands in a role that the type with this number plays.
-use Prim.Native.Nat.{ℕ, suc, _≤_}
+use Prim.Native.Nat.{ℕ, suc}
 use mathlib.Core.Bool.{Bool, true, false, _&&_, _||_}
 use mathlib.Core.List.{List, [], _∷_}
 use lib.Dec.{eqb}
@@ -10,7 +10,6 @@ use Rattle.orm.specs.Population.{Population}
 use Rattle.orm.specs.Constraints.{valuesInRoles, allPlayed}
 use lib.ListN.{drop}
 use Rattle.table.specs.Positions.{predOf, diagramOf}
-use Rattle.columns.specs.declared.Rows.{Rows}
 use Rattle.blocks.specs.Blocks.{predWidth, rowsAt, populationAt}
 
 -- in one role with these values in its column
@@ -46,8 +45,3 @@ rowsHere t s pred at = rowsAt (predWidth (predAt t pred)) (drop at s)
 -- The values in all roles that the type with this number plays, in these cells
 abbrev pub players : List ℕ → List ℕ → ℕ → List ℕ
 players t s number = playedBy (diagramOf t) (populationOf t s) number
-
--- Rows that can be put in order
-pub record Few (r : Rows) : Type 0 where
-  pub wide : r .width ≤ 4096
-  pub few : r .count ≤ 4096

@@ -1,6 +1,5 @@
 -- `playing::all_play` meets its contract. The test of the members left comes to the whole test.
 -- Assumes nothing.
-use Prim.Native.Nat.{_+_, _≤_}
 use Rattle.table.specs.Positions.{diagramOf}
 use Rattle.columns.specs.Passes.{WithinLeft, within-none, within-not, within-more}
 use Rattle.playing.specs.Playing.{playedBy, populationOf}
@@ -9,12 +8,10 @@ use Rattle.playing.proofs.all_play.Statement.{statement}
 use Rattle.playing.proofs.all_play.Tie as tie
 
 abbrev Inv-loop : tie.InvT-loop
-Inv-loop t cells column number roles rows at₀ i₀ left₀ at i left =
-    (i + left ≤ column .count)
-    × WithinLeft cells column (playedBy (diagramOf t) (populationOf t cells) number) at left
+Inv-loop t cells column number at₀ left₀ at left = WithinLeft cells column (playedBy (diagramOf t) (populationOf t cells) number) at left
 
 abbrev μ-loop : tie.MeasureT-loop
-μ-loop t cells column number roles rows at₀ i₀ left₀ at i left = left
+μ-loop t cells column number at₀ left₀ at left = left
 
 pub all-play-spec : {M : Type 1} → statement M
 all-play-spec =
@@ -25,11 +22,8 @@ all-play-spec =
     (λ c. search needs)
     (λ c κs. search needs)
     (λ c κs. search needs)
-    (λ c κs. search needs)
-    (λ c κs. search needs)
     (λ c. search (needs, within-not))
     (λ c κs. search needs)
-    (λ c. search needs)
     (λ c. search needs)
     (λ c. search needs)
     (λ c. search (needs, within-more))

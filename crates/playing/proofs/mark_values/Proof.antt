@@ -1,0 +1,30 @@
+-- `playing::mark_values` meets its contract. Those marked and those left come to all.
+-- Assumes nothing.
+use Rattle.columns.specs.Values.{valuesIn}
+use Rattle.playing.specs.Marks.{Ready}
+use Rattle.playing.proofs.Marking.{ValuesLeft, still-ready, same-ready, values-start, values-more, values-end}
+use borrow.Author.Needs.{needs}
+use Rattle.playing.proofs.mark_values.Statement.{statement}
+use Rattle.playing.proofs.mark_values.Tie as tie
+
+abbrev Inv-loop : tie.InvT-loop
+Inv-loop cells values members list marks₀ at₀ left₀ marks at left = Ready cells members list marks × ValuesLeft (valuesIn cells members) marks₀ marks cells values at left
+
+abbrev μ-loop : tie.MeasureT-loop
+μ-loop cells values members list marks₀ at₀ left₀ marks at left = left
+
+pub mark-values-spec : {M : Type 1} → statement M
+mark-values-spec =
+    tie.close
+    (tie.spec
+    Inv-loop
+    μ-loop
+    (λ c. search (needs, values-start))
+    (λ c κs. search needs)
+    (λ c κs. search needs)
+    (λ c κs. search needs)
+    (λ c. search needs)
+    (λ c. search needs)
+    (λ c. search (needs, values-more, still-ready))
+    (λ c. search (needs, same-ready))
+    (λ c. search (needs, values-end)))

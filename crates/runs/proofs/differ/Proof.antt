@@ -1,0 +1,14 @@
+-- `runs::differ` meets its contract. Values differ where each occurs once.
+-- Assumes nothing.
+use Rattle.columns.specs.Differ.{values-differ}
+use borrow.Author.Needs.{needs}
+use Rattle.runs.proofs.differ.Statement.{statement}
+use Rattle.runs.proofs.differ.Tie as tie
+
+pub differ-spec : {M : Type 1} → statement M
+differ-spec =
+    tie.close
+    (tie.spec
+    (λ c. search needs)
+    (λ c κs. search needs)
+    (λ c. search (needs, values-differ)))

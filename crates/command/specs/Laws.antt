@@ -2,3 +2,4 @@
 pub mod TableLength
 pub mod Reports
 pub mod Inside
+pub mod Whole

@@ -134,7 +134,8 @@ fn print_input(text: &[u8], out: &mut [u8]) -> usize
     print_text(text, &mut table, out)
 }
 
-// Standard output of standard input, of which 4,096 bytes count, as far as the buffer has room.
+// Standard output of standard input, of which 4,096 bytes count, as far as the buffer has room:
+// 262,144 bytes are enough for any input (specs/Laws/Whole).
 pub fn run(input: &[u8], out: &mut [u8]) -> usize
     ensures { λ r. ⌜ Wrote (now (out .entry)) 0 (program (now (input .entry))) (now (out .exit)) r ⌝ }
 {

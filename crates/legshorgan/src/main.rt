@@ -1,11 +1,15 @@
 // The program: reads at most 4,096 bytes of a diagram's text on standard input, and prints the rounds,
 // the sizes, the types and the predicates of its population, or `refused=NUMBER,PLACE,ROUND`.
+ghost use mathlib.Core.Path.{_≡_};
+ghost use lib.ListN.{length, take, drop};
 ghost use Rattle.orm.specs.Program.{program};
-ghost use Rattle.buffer.specs.Written.{Wrote};
 ghost use Rattle.io.specs.Counts.{Counts};
 
-fn output_space() -> [u8; 262144] {
-    [0u8; 262144]
+// Enough for what is printed of any text (`program-at-most`, in crate extent).
+const SPACE: usize = 262144;
+
+fn output_space() -> [u8; SPACE] {
+    [0u8; SPACE]
 }
 
 fn main() {
@@ -16,9 +20,11 @@ fn main() {
     io::write_all(1, &out[..length]);
 }
 
-// What is printed of a text.
-fn report(text: &[u8], out: &mut [u8]) -> usize
-    ensures { λ r. ⌜ Wrote (now (out .entry)) 0 (program (now (text .entry))) (now (out .exit)) r ⌝ }
+// What is printed of a text, at the front of `out`, and nothing behind it.
+fn report(text: &[u8], out: &mut [u8; SPACE]) -> usize
+    ensures { λ r. ⌜ r ≡ length (program (now (text .entry))) ⌝ }
+    ensures { λ r. ⌜ take r (now (out .exit)) ≡ program (now (text .entry)) ⌝ }
+    ensures { λ r. ⌜ drop r (now (out .exit)) ≡ drop r (now (out .entry)) ⌝ }
     ensures { λ r. ⌜ Counts r (now (out .exit)) ⌝ }
 {
     command::run(text, out)

@@ -1,6 +1,7 @@
--- `legshorgan::report` meets its contract. What is printed, and an index within the buffer.
+-- `legshorgan::report` meets its contract. The buffer has room for all that is printed.
 -- Assumes nothing.
 use Rattle.command.specs.Laws.Inside.{wrote-inside, wrote-counts}
+use Rattle.command.specs.Laws.Whole.{output-length, output-front, output-behind}
 use borrow.Author.Needs.{needs}
 use Rattle.legshorgan.proofs.report.Statement.{statement}
 use Rattle.legshorgan.proofs.report.Tie as tie
@@ -10,5 +11,7 @@ report-spec =
     tie.close
     (tie.spec
     (λ c κs. search needs)
-    (λ c. search needs)
-    (λ c. search (needs, wrote-inside, wrote-counts)))
+    (λ c. (
+      search (needs, output-length),
+      (search (needs, output-front), (search (needs, output-behind), (search (needs, wrote-inside), search (needs, wrote-counts)))),
+    )))

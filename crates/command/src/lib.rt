@@ -9,7 +9,7 @@ ghost use Rattle.grammar.specs.Fault.{numberOf};
 ghost use Rattle.buffer.specs.Written.{Wrote};
 ghost use Rattle.command.specs.Reports.{refusalLine, textReport, tableReport, Read, Settled};
 
-fn number_of(fault: grammar::Fault) -> usize
+pub fn number_of(fault: grammar::Fault) -> usize
     ensures { λ r. ⌜ r ≡ numberOf fault ⌝ }
 {
     match fault {
@@ -23,7 +23,7 @@ fn number_of(fault: grammar::Fault) -> usize
 }
 
 // `refused=NUMBER,PLACE,ROUND`
-fn push_refusal(out: &mut [u8], number: usize, place: usize, round: usize) -> usize
+pub fn push_refusal(out: &mut [u8], number: usize, place: usize, round: usize) -> usize
     ensures { λ r. ⌜ Wrote (now (out .entry)) 0 (refusalLine number place round) (now (out .exit)) r ⌝ }
 {
     let a = buffer::bytes::append(out, 0, b"refused=");

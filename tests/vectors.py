@@ -1,0 +1,92 @@
+#!/usr/bin/env python3
+"""Makes data/ and stdout of the crates vectors_texts, vectors_tables and vectors_cells.
+
+    python3 tests/vectors.py VECTORS CRATES
+
+VECTORS is the folder of cases with outcomes by other hands: texts.jsonl, tables.txt, cells.txt and slow.txt, with its
+outcome in README.md. CRATES is the folder of the crates. Each data file starts with the number of cases; crates/cases says
+how a case is written. What is expected comes from VECTORS alone: no program of this repository is run.
+"""
+
+import json
+import pathlib
+import re
+import sys
+
+
+def lines(path):
+    return path.read_text(encoding="ascii").removesuffix("\n").split("\n")
+
+
+def number(n):
+    """A number of seven digits and a line feed."""
+    if not 0 <= n <= 9999999:
+        raise ValueError(n)
+    return b"%07d\n" % n
+
+
+def case(content):
+    return number(len(content)) + content
+
+
+def numbers(text):
+    """A list of numbers as a case: as it stands, with a line feed; the empty list is no byte."""
+    return case(text.encode("ascii") + b"\n" if text else b"")
+
+
+def values(line):
+    """The values of `key=value key=value ..`, by key."""
+    return dict(word.split("=", 1) for word in line.split(" "))
+
+
+def outcome(line, *keys):
+    """The outcome at the end of a line, under one of these keys."""
+    return next(f"{key}={values(line)[key]}" for key in keys if key in values(line))
+
+
+def is_read(output):
+    """Whether reading accepts the text: only then there are sizes, or refusals 7 and 8."""
+    return not re.match(r"refused=[1-6],", output)
+
+
+def text_line(output):
+    return output.replace("\n", ";") + ("same" if is_read(output) else "") + "\n"
+
+
+def slow(vectors):
+    """The text that takes many rounds, and its output."""
+    said = (vectors / "README.md").read_text()
+    refusal = re.search(r"`slow\.txt`.*`(refused=\d+,\d+,\d+)`", said).group(1)
+    return (vectors / "slow.txt").read_bytes(), refusal + "\n"
+
+
+def texts(vectors):
+    objects = map(json.loads, lines(vectors / "texts.jsonl"))
+    found = [(o["text"].encode("latin-1"), o["output"]) for o in objects] + [slow(vectors)]
+    return [case(text) for text, _ in found], [text_line(output) for _, output in found]
+
+
+def tables(vectors):
+    found = lines(vectors / "tables.txt")
+    return [numbers(values(x)["table"]) for x in found], [outcome(x, "accepted", "refused") + ";same\n" for x in found]
+
+
+def cells(vectors):
+    found = lines(vectors / "cells.txt")
+    data = [numbers(values(x)["table"]) + numbers(values(x)["cells"]) for x in found]
+    return data, [outcome(x, "broken", "refused") + "\n" for x in found]
+
+
+def main():
+    vectors, crates = map(pathlib.Path, sys.argv[1:])
+    for name, made in ("texts", texts(vectors)), ("tables", tables(vectors)), ("cells", cells(vectors)):
+        data, expected = made
+        crate = crates / f"vectors_{name}"
+        (crate / "data").mkdir(parents=True, exist_ok=True)
+        (crate / "data" / name).write_bytes(number(len(data)) + b"".join(data))
+        (crate / "stdout").write_text("".join(expected))
+        print(f"{crate.name}: {len(data)} cases")
+
+
+if __name__ == "__main__":
+    main()

@@ -1,0 +1,15 @@
+-- `capi::legshorgan_check` meets its contract. The answer stored is that of the call.
+-- Assumes nothing.
+use Rattle.capi.proofs.Stored.{handed-sent}
+use borrow.Author.Needs.{needs}
+use Rattle.capi.proofs.legshorgan_check.Statement.{statement}
+use Rattle.capi.proofs.legshorgan_check.Tie as tie
+
+pub legshorgan-check-spec : {M : Type 1} → statement M
+legshorgan-check-spec =
+    tie.close
+    (tie.spec
+    (λ c κs. search needs)
+    (λ c κs. search needs)
+    (λ c. search needs)
+    (λ c. search (needs, handed-sent)))

@@ -1,0 +1,15 @@
+-- `capi::legshorgan_populate` meets its contract. The answer stored is that of the call.
+-- Assumes nothing.
+use Rattle.capi.proofs.Stored.{handed-sent}
+use borrow.Author.Needs.{needs}
+use Rattle.capi.proofs.legshorgan_populate.Statement.{statement}
+use Rattle.capi.proofs.legshorgan_populate.Tie as tie
+
+pub legshorgan-populate-spec : {M : Type 1} → statement M
+legshorgan-populate-spec =
+    tie.close
+    (tie.spec
+    (λ c κs. search needs)
+    (λ c κs. search needs)
+    (λ c. search needs)
+    (λ c. search (needs, handed-sent)))

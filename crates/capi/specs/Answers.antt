@@ -1,0 +1,20 @@
+-- The four numbers that each exported function leaves in its answer, of the outcomes of document 01.
+use Prim.Native.Nat.{ℕ}
+use mathlib.Core.List.{List, [], _∷_}
+use Rattle.orm.specs.Constraints.{Answer, valid, breaks}
+use Rattle.orm.specs.Outcome.{Outcome, refused, accepted, _>>=_, Handed}
+
+-- Number (0: accepted), place, round, and the length of the result; of an acceptance the rounds made
+unfoldable pub numbers : Outcome Handed → List ℕ
+numbers (refused number place round) = number ∷ place ∷ round ∷ 0 ∷ []
+numbers (accepted h) = 0 ∷ 0 ∷ h .rounds ∷ h .resultLength ∷ []
+
+-- Reading and writing make no rounds
+abbrev pub roundless : Outcome ℕ → Outcome Handed
+roundless o = o >>= λ length. accepted (record { rounds = 0; resultLength = length })
+
+-- Number (0: not refused), place, the broken K and the number that breaks it (0, 0: none)
+unfoldable pub verdictNumbers : Outcome Answer → List ℕ
+verdictNumbers (refused number place round) = number ∷ place ∷ 0 ∷ 0 ∷ []
+verdictNumbers (accepted valid) = 0 ∷ 0 ∷ 0 ∷ 0 ∷ []
+verdictNumbers (accepted (breaks constraint number)) = 0 ∷ 0 ∷ constraint ∷ number ∷ []

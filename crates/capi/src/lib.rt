@@ -1,0 +1,169 @@
+// The calls for programs in C: slices are a pointer and a length, and the answer is four numbers.
+//
+// Each function calls the one of the same name and stores its answer. include/legshorgan.h declares
+// them.
+ghost use mathlib.Core.Path.{_≡_};
+ghost use mathlib.Core.List.{[], _∷_};
+ghost use lib.ListN.{length};
+ghost use Rattle.orm.specs.Outcome.{lengthOf, bufferAfter, written, handedBack};
+ghost use Rattle.orm.specs.Calls.{readCall, checkCall, populateCall, validateCall, writeCall};
+ghost use Rattle.grammar.specs.Fault.{numberOf};
+ghost use Rattle.reader.specs.Answer.{readOf};
+ghost use Rattle.bounds.specs.Answer.{checkOf};
+ghost use Rattle.populate.specs.Answer.{populateOf};
+ghost use Rattle.validator.specs.Outcomes.{validateOf};
+ghost use Rattle.writer.specs.Answer.{writeOf};
+ghost use Rattle.capi.specs.Answers.{numbers, roundless, verdictNumbers};
+
+fn number_of(fault: grammar::Fault) -> u64
+    ensures { λ r. ⌜ r ≡ numberOf fault ⌝ }
+{
+    match fault {
+        grammar::Fault::Malformed => 1,
+        grammar::Fault::OutOfRange => 2,
+        grammar::Fault::Unknown => 3,
+        grammar::Fault::Disordered => 4,
+        grammar::Fault::Unnamed => 5,
+        grammar::Fault::Miscounted => 6,
+    }
+}
+
+fn of_size(x: usize) -> u64
+    ensures { λ r. ⌜ r ≡ x ⌝ }
+{
+    x as u64
+}
+
+fn of_u32(x: u32) -> u64
+    ensures { λ r. ⌜ r ≡ x ⌝ }
+{
+    x as u64
+}
+
+fn store(answer: &mut [u64; 4], number: u64, place: u64, round: u64, length: u64)
+    ensures { λ _. ⌜ now (answer .exit) ≡ number ∷ place ∷ round ∷ length ∷ [] ⌝ }
+{
+    *answer = [number, place, round, length];
+}
+
+fn store_read(answer: &mut [u64; 4], outcome: reader::ReadAnswer)
+    ensures { λ _. ⌜ now (answer .exit) ≡ numbers (roundless (readOf outcome)) ⌝ }
+{
+    match outcome {
+        reader::ReadAnswer::Accepted { length } => store(answer, 0, 0, 0, of_size(length)),
+        reader::ReadAnswer::Refused { fault, line } => {
+            store(answer, number_of(fault), of_size(line), 0, 0)
+        }
+        reader::ReadAnswer::TooShort { needed } => store(answer, 8, of_size(needed), 0, 0),
+    }
+}
+
+fn store_check(answer: &mut [u64; 4], outcome: bounds::CheckAnswer)
+    ensures { λ _. ⌜ now (answer .exit) ≡ numbers (checkOf outcome) ⌝ }
+{
+    match outcome {
+        bounds::CheckAnswer::Refused { fault, line } => {
+            store(answer, number_of(fault), of_size(line), 0, 0)
+        }
+        bounds::CheckAnswer::Unsatisfiable { set, round } => {
+            store(answer, 7, of_size(set), of_u32(round), 0)
+        }
+        bounds::CheckAnswer::TooShort { needed } => store(answer, 8, of_size(needed), 0, 0),
+        bounds::CheckAnswer::Accepted { length, rounds } => {
+            store(answer, 0, 0, of_u32(rounds), of_size(length))
+        }
+    }
+}
+
+fn store_populate(answer: &mut [u64; 4], outcome: populate::PopulateAnswer)
+    ensures { λ _. ⌜ now (answer .exit) ≡ numbers (populateOf outcome) ⌝ }
+{
+    match outcome {
+        populate::PopulateAnswer::Refused { fault, line } => {
+            store(answer, number_of(fault), of_size(line), 0, 0)
+        }
+        populate::PopulateAnswer::Unsatisfiable { set, round } => {
+            store(answer, 7, of_size(set), of_u32(round), 0)
+        }
+        populate::PopulateAnswer::TooShort { needed } => store(answer, 8, of_size(needed), 0, 0),
+        populate::PopulateAnswer::Accepted { length, rounds } => {
+            store(answer, 0, 0, of_u32(rounds), of_size(length))
+        }
+    }
+}
+
+fn store_validate(answer: &mut [u64; 4], outcome: validator::ValidateAnswer)
+    ensures { λ _. ⌜ now (answer .exit) ≡ verdictNumbers (validateOf outcome) ⌝ }
+{
+    match outcome {
+        validator::ValidateAnswer::Valid => store(answer, 0, 0, 0, 0),
+        validator::ValidateAnswer::Breaks { constraint, number } => {
+            store(answer, 0, 0, of_u32(constraint), of_u32(number))
+        }
+        validator::ValidateAnswer::Refused { fault, line } => {
+            store(answer, number_of(fault), of_size(line), 0, 0)
+        }
+        validator::ValidateAnswer::CellsEnd { at } => store(answer, 9, of_size(at), 0, 0),
+    }
+}
+
+fn store_write(answer: &mut [u64; 4], outcome: writer::WriteAnswer)
+    ensures { λ _. ⌜ now (answer .exit) ≡ numbers (roundless (writeOf outcome)) ⌝ }
+{
+    match outcome {
+        writer::WriteAnswer::Accepted { length } => store(answer, 0, 0, 0, of_size(length)),
+        writer::WriteAnswer::Refused { fault, line } => {
+            store(answer, number_of(fault), of_size(line), 0, 0)
+        }
+        writer::WriteAnswer::TooShort { needed } => store(answer, 8, of_size(needed), 0, 0),
+    }
+}
+
+// Reads a diagram from its text into its table.
+#[no_mangle]
+pub extern "C" fn legshorgan_read(text: &[u8], table: &mut [u32], answer: &mut [u64; 4])
+    ensures { λ _. ⌜ now (answer .exit) ≡ numbers (roundless (lengthOf (readCall (now (text .entry)) (length (now (table .entry)))))) ⌝ }
+    ensures { λ _. ⌜ now (table .exit) ≡ bufferAfter (readCall (now (text .entry)) (length (now (table .entry)))) (now (table .entry)) ⌝ }
+{
+    let outcome = reader::read(text, table);
+    store_read(answer, outcome);
+}
+
+// The settled sizes of the sets of a table's diagram, in set order.
+#[no_mangle]
+pub extern "C" fn legshorgan_check(table: &[u32], sizes: &mut [u32], answer: &mut [u64; 4])
+    ensures { λ _. ⌜ now (answer .exit) ≡ numbers (handedBack (checkCall (now (table .entry)) (length (now (sizes .entry))))) ⌝ }
+    ensures { λ _. ⌜ now (sizes .exit) ≡ bufferAfter (written (checkCall (now (table .entry)) (length (now (sizes .entry))))) (now (sizes .entry)) ⌝ }
+{
+    let outcome = bounds::check(table, sizes);
+    store_check(answer, outcome);
+}
+
+// The cells of the population of a table's diagram.
+#[no_mangle]
+pub extern "C" fn legshorgan_populate(table: &[u32], cells: &mut [u32], answer: &mut [u64; 4])
+    ensures { λ _. ⌜ now (answer .exit) ≡ numbers (handedBack (populateCall (now (table .entry)) (length (now (cells .entry))))) ⌝ }
+    ensures { λ _. ⌜ now (cells .exit) ≡ bufferAfter (written (populateCall (now (table .entry)) (length (now (cells .entry))))) (now (cells .entry)) ⌝ }
+{
+    let outcome = populate::populate(table, cells);
+    store_populate(answer, outcome);
+}
+
+// Whether cells are a population that meets the constraints of a table's diagram.
+#[no_mangle]
+pub extern "C" fn legshorgan_validate(table: &[u32], cells: &[u32], answer: &mut [u64; 4])
+    ensures { λ _. ⌜ now (answer .exit) ≡ verdictNumbers (validateCall (now (table .entry)) (now (cells .entry))) ⌝ }
+{
+    let outcome = validator::validate(table, cells);
+    store_validate(answer, outcome);
+}
+
+// Writes the text of a diagram from its table.
+#[no_mangle]
+pub extern "C" fn legshorgan_write(table: &[u32], text: &mut [u8], answer: &mut [u64; 4])
+    ensures { λ _. ⌜ now (answer .exit) ≡ numbers (roundless (lengthOf (writeCall (now (table .entry)) (length (now (text .entry)))))) ⌝ }
+    ensures { λ _. ⌜ now (text .exit) ≡ bufferAfter (writeCall (now (table .entry)) (length (now (text .entry)))) (now (text .entry)) ⌝ }
+{
+    let outcome = writer::write(table, text);
+    store_write(answer, outcome);
+}

@@ -1,0 +1,60 @@
+/* Legshorgan for programs in C: the calls of crates/capi.
+ *
+ * Every text, table and list of cells is input, and every call ends. It allocates nothing and has no global state; of the stack it
+ * takes up to about 140,000 bytes (measured). A refused call writes only its answer. An accepted one writes its result at the front
+ * of the caller's array, and nothing behind it. The contracts in crates/capi/src/lib.rt say exactly what stands in the answer and in
+ * that array afterwards.
+ *
+ * Each pointer is to an array of the length given beside it, the answer to four numbers; it is aligned, and not null even where the
+ * length is 0. What a call writes overlaps no other array of the same call.
+ */
+#ifndef LEGSHORGAN_H
+#define LEGSHORGAN_H
+
+#include <stddef.h>
+#include <stdint.h>
+
+#ifdef __cplusplus
+extern "C" {
+#endif
+
+/* No diagram has a longer result. A shorter array does where the result fits into it. */
+#define LEGSHORGAN_MOST_TABLE 708u    /* 1 + 1 + 32 * 6 + 1 + 32 * 4 + 96 * 3 + 48 * 2 + 1 numbers */
+#define LEGSHORGAN_MOST_SIZES 208u    /* 32 types, 32 predicates, 96 roles, 48 groups */
+#define LEGSHORGAN_MOST_CELLS 524352u /* 32 and 32 sizes, 32 * 4096 values, 96 * 4096 values of rows */
+#define LEGSHORGAN_MOST_TEXT 3603u    /* bytes */
+
+/* The answer of legshorgan_read, check, populate and write:
+ *   answer[0]  0: accepted; else the number of the refusal, 1 to 8
+ *   answer[1]  its place: the line from 1 (1 to 6), the set from 1 (7), the length needed (8); 0 if accepted
+ *   answer[2]  the rounds made if check or populate accepts; the round of a refusal 7; else 0
+ *   answer[3]  the length of the result if accepted, else 0
+ */
+
+/* Reads a diagram's text into its table, at most LEGSHORGAN_MOST_TABLE numbers. Refuses with 1 to 6, then 8. */
+void legshorgan_read(const uint8_t *text, size_t text_length, uint32_t *table, size_t table_length, uint64_t answer[4]);
+
+/* Writes the settled size of each set of a table's diagram, types, predicates, roles and groups in file order, at most
+ * LEGSHORGAN_MOST_SIZES numbers. Refuses with 1 to 6, 7 where a set is emptied, then 8. */
+void legshorgan_check(const uint32_t *table, size_t table_length, uint32_t *sizes, size_t sizes_length, uint64_t answer[4]);
+
+/* Writes the cells of the population of a table's diagram: of each type its size and values, of each predicate its size and rows,
+ * at most LEGSHORGAN_MOST_CELLS numbers. Refuses like legshorgan_check. */
+void legshorgan_populate(const uint32_t *table, size_t table_length, uint32_t *cells, size_t cells_length, uint64_t answer[4]);
+
+/* Writes the text of a table's diagram, at most LEGSHORGAN_MOST_TEXT bytes. Refuses with 1 to 6, then 8. */
+void legshorgan_write(const uint32_t *table, size_t table_length, uint8_t *text, size_t text_length, uint64_t answer[4]);
+
+/* Whether cells are a population that meets every constraint of a table's diagram. Writes only its answer:
+ *   answer[0]  0: not refused; else 1 to 6 of the table, or 9 where the cells end early or run on
+ *   answer[1]  the line from 1 (1 to 6), the index of the cell from 0 (9); 0 if not refused
+ *   answer[2]  the lowest broken constraint, 1 to 10 for K1 to K10; 0 if none is broken
+ *   answer[3]  the lowest number of a type (K1 to K4, K10) or a predicate (K5 to K9) that breaks it; 0 if none does
+ */
+void legshorgan_validate(const uint32_t *table, size_t table_length, const uint32_t *cells, size_t cells_length, uint64_t answer[4]);
+
+#ifdef __cplusplus
+}
+#endif
+
+#endif

@@ -107,7 +107,10 @@ module _ (vs marks₀ marks : List ℕ) where
   noting-more : {marks′ : List ℕ} (left rest test next : ℕ → Bool) → ((x : ℕ) → left x ≡ (next x || rest x)) → Noting vs marks₀ marks left test
       → Noted vs marks marks′ next → Noting vs marks₀ marks′ rest test
   noting-more left rest test next split n m =
-      record { each = λ x i. or-step (marked vs marks x) _ (next x) (rest x) _ (m .each x i) (ap (λ (b : Bool). marked vs marks x || b) (sym (split x)) ∙ n .each x i) }
+      record {
+        each = λ x i. or-step (marked vs marks x) _ (next x) (rest x) _ (m .each x i) (ap (λ (b : Bool). marked vs marks x || b) (sym
+            (split x)) ∙ n .each x i);
+      }
 
   noting-end : (left test : ℕ → Bool) → ((x : ℕ) → left x ≡ false) → Noting vs marks₀ marks left test → Noted vs marks₀ marks test
   noting-end left test none n =
@@ -160,7 +163,8 @@ module _ (vs marks₀ marks t s : List ℕ) (number pred at role j left : ℕ) w
 
   pub roles-more : {w : ℕ} (c : Column) {marks′ : List ℕ} → Noted vs marks marks′ (amongRole number (roleOf (drop role t)) (valuesIn s c))
       → RolesLeft → 0 < left → w ≡ predWidth (predOf (drop pred t)) → valuesIn s c ≡ column j (rowsAt w (drop at s))
-      → Noting vs marks₀ marks′ (amongRoles number (j + 1) (rolesIn (left - 1) (drop (role + 3) t)) (rowsAt (predWidth (predOf (drop pred t))) (drop at s)))
+      → Noting vs marks₀ marks′ (amongRoles number (j + 1) (rolesIn (left - 1) (drop (role + 3) t)) (rowsAt (predWidth (predOf (drop pred t)))
+      (drop at s)))
       (amongRoles number 0 (predOf (drop pred t) .roles) (rowsAt (predWidth (predOf (drop pred t))) (drop at s)))
   unfolding inRoles amongRoles amongRole
   roles-more c m n h f q =
@@ -168,7 +172,8 @@ module _ (vs marks₀ marks t s : List ℕ) (number pred at role j left : ℕ) w
       (λ y. rw (each-more roleOf 3 t role left h, inRoles, q, f, add-one)) n m
 
 module _ (vs marks t s : List ℕ) (number pred at : ℕ) {w : ℕ} (e : w ≡ predWidth (predOf (drop pred t))) where
-  pub roles-start : Noting vs marks marks (amongRoles number 0 (rolesIn w (drop (pred + 4) t)) (rowsAt (predWidth (predOf (drop pred t))) (drop at s)))
+  pub roles-start : Noting vs marks marks (amongRoles number 0 (rolesIn w (drop (pred + 4) t)) (rowsAt (predWidth (predOf (drop pred t)))
+      (drop at s)))
       (amongRoles number 0 (predOf (drop pred t) .roles) (rowsAt (predWidth (predOf (drop pred t))) (drop at s)))
   unfolding amongRoles
   roles-start = record { each = λ x m. ap (λ (b : Bool). marked vs marks x || b) (in-roles-start t x number _ pred e) }

@@ -123,6 +123,7 @@ module _ (t s : List ℕ) (x number : ℕ) (all-preds : Bool) (pred at left : �
 
 pub in-preds-start : (t s : List ℕ) (x number pred at left : ℕ) → pred ≡ firstPredAt t → left ≡ predCount t
     → drop at s ≡ behindTypes (diagramOf t) s
-    → inPreds x number (predsIn left (drop pred t)) (rowsIn (predsIn left (drop pred t)) (drop at s)) ≡ member eqb x (playedBy (diagramOf t) (populationOf t s) number)
+    → inPreds x number (predsIn left (drop pred t)) (rowsIn (predsIn left (drop pred t)) (drop at s)) ≡ member eqb x (playedBy (diagramOf t)
+    (populationOf t s) number)
 unfolding diagramOf populationAt allPlayed
 in-preds-start t s x number pred at left e f q = rw (e, f, q) (sym (plays-preds x number (diagramOf t .preds) (populationOf t s .preds)))

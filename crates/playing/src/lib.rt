@@ -100,7 +100,9 @@ fn mark(cells: &[u32], members: Column, list: &[u32], x: u32, marks: &mut [u32])
 // The members in the column `values` are marked.
 fn mark_values(cells: &[u32], values: Column, members: Column, list: &[u32], marks: &mut [u32])
     requires { ⌜ Ready (now cells) members (now list) (now marks) ⌝ }
-    ensures { λ _. ⌜ Noted (valuesIn (now (cells .entry)) members) (now (marks .entry)) (now (marks .exit)) (among (valuesIn (now (cells .entry)) values)) ⌝ }
+    ensures { λ _.
+        ⌜ Noted (valuesIn (now (cells .entry)) members) (now (marks .entry)) (now (marks .exit))
+        (among (valuesIn (now (cells .entry)) values)) ⌝ }
 {
     let mut at = values.start;
     let mut left = values.count;
@@ -124,7 +126,9 @@ fn mark_role(
 )
     requires { ⌜ Walkable (now t) ⌝ }
     requires { ⌜ Ready (now cells) members (now list) (now marks) ⌝ }
-    ensures { λ _. ⌜ Noted (valuesIn (now (cells .entry)) members) (now (marks .entry)) (now (marks .exit)) (amongRole number (roleOf (drop role (now (t .entry)))) (valuesIn (now (cells .entry)) values)) ⌝ }
+    ensures { λ _.
+        ⌜ Noted (valuesIn (now (cells .entry)) members) (now (marks .entry)) (now (marks .exit))
+        (amongRole number (roleOf (drop role (now (t .entry)))) (valuesIn (now (cells .entry)) values)) ⌝ }
 {
     if table::field(t, role, 0) != number {
         return;
@@ -146,7 +150,9 @@ fn mark_roles(
     requires { ⌜ Walkable (now t) ⌝ }
     requires { ⌜ Ready (now cells) members (now list) (now marks) ⌝ }
     requires { ⌜ pred ≤ 200000000 ⌝ }
-    ensures { λ _. ⌜ Noted (valuesIn (now (cells .entry)) members) (now (marks .entry)) (now (marks .exit)) (amongRoles number 0 (predAt (now (t .entry)) pred .roles) (rowsHere (now (t .entry)) (now (cells .entry)) pred at)) ⌝ }
+    ensures { λ _.
+        ⌜ Noted (valuesIn (now (cells .entry)) members) (now (marks .entry)) (now (marks .exit))
+        (amongRoles number 0 (predAt (now (t .entry)) pred .roles) (rowsHere (now (t .entry)) (now (cells .entry)) pred at)) ⌝ }
 {
     let w = blocks::width(t, pred);
     let mut role = pred + 4;
@@ -180,7 +186,9 @@ fn mark_preds(
 )
     requires { ⌜ Walkable (now t) ⌝ }
     requires { ⌜ Ready (now cells) members (now list) (now marks) ⌝ }
-    ensures { λ _. ⌜ Noted (valuesIn (now (cells .entry)) members) (now (marks .entry)) (now (marks .exit)) (among (players (now (t .entry)) (now (cells .entry)) number)) ⌝ }
+    ensures { λ _.
+        ⌜ Noted (valuesIn (now (cells .entry)) members) (now (marks .entry)) (now (marks .exit))
+        (among (players (now (t .entry)) (now (cells .entry)) number)) ⌝ }
 {
     let mut pred = table::first_pred(t);
     let mut at = blocks::first_rows(t, cells);

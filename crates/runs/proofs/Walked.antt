@@ -58,7 +58,8 @@ module _ (low high : ℕ) (s : List ℕ) (rows : Rows) (js list : List ℕ) wher
   runs-start {x} n e = record { rest = go list n e }
     where
       go : (l : List ℕ) → ¬ (length l ≡ 0) → x ≡ getD l 0 0
-          → runsFrom same (inRange (low to high)) (keyOf s rows js x) 1 (map (keyOf s rows js) (drop 1 l)) ≡ runs same (inRange (low to high)) (map (keyOf s rows js) l)
+          → runsFrom same (inRange (low to high)) (keyOf s rows js x) 1 (map (keyOf s rows js) (drop 1 l)) ≡ runs same (inRange (low to high))
+          (map (keyOf s rows js) l)
       go [] h e = absurd (h refl)
       go (y ∷ l) h e = rw e
 
@@ -70,8 +71,13 @@ module _ (low high : ℕ) (s : List ℕ) (rows : Rows) (js list : List ℕ) wher
     opened : Opened b
     unfolding runsFrom
     opened =
-        let g : b ≡ same (keyOf s rows js last) (keyOf s rows js (getD list i 0)) = p ∙ ap (λ (y : ℕ). same (keyOf s rows js last) (keyOf s rows js y)) e in
-        subst (λ (y : ℕ). elim b [ true ↦ Left last (suc n) (suc i) | false ↦ inRange (low to high) n && Left y 1 (suc i) ] ≡ runsBetween low high s rows js list)
+        let g : b ≡ same (keyOf s rows js last) (keyOf s rows js (getD list i 0)) = p
+        ∙ ap (λ (y : ℕ). same (keyOf s rows js last) (keyOf s rows js y)) e in
+        subst (λ (y : ℕ). elim b [
+          | true ↦ Left last (suc n) (suc i)
+          | false ↦ inRange (low to high) n && Left y 1
+              (suc i)
+        ] ≡ runsBetween low high s rows js list)
         (sym e) (rw (drop-cons list i 0 h, runsFrom, ← g) at (w .rest))
 
     pub runs-broken : not k ≡ true → false ≡ runsBetween low high s rows js list
@@ -85,7 +91,8 @@ module _ (low high : ℕ) (s : List ℕ) (rows : Rows) (js list : List ℕ) wher
     unfolding runAfter
     runs-more {m} t r = record { rest = rw add-one (go b p q r opened) }
       where
-        go : (c : Bool) → c ≡ same (keyOf s rows js last) (keyOf s rows js x) → k ≡ c || inRange (low to high) n → m ≡ elim c [ true ↦ n + 1 | false ↦ 1 ]
+        go : (c : Bool) → c ≡ same (keyOf s rows js last) (keyOf s rows js x) → k ≡ c || inRange (low to high) n
+            → m ≡ elim c [ true ↦ n + 1 | false ↦ 1 ]
             → Opened c → Left x m (suc i) ≡ runsBetween low high s rows js list
         go true g z y o = rw (y, add-one, ← same-decides .iff (keyOf s rows js last) (keyOf s rows js x) .0 (sym g)) o
         go false g z y o = rw y (rw (sym z ∙ not-false k t) at o)

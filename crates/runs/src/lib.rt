@@ -102,6 +102,9 @@ pub fn occurring(s: &[u32], rows: Rows, js: &[u32], low: u32, high: u32) -> bool
     if 4096 < rows.count {
         return columns::occurring(s, rows, js, low, high);
     }
+    if rows.count <= 16 {
+        return columns::occurring(s, rows, js, low, high);
+    }
     occurring_sorted(s, rows, js, low, high)
 }
 

@@ -1,0 +1,120 @@
+//! Filling a population.
+
+use crate::diagram::{form, Diagram, Predicate};
+use crate::sizes::settle;
+use crate::{room, Refusal, Settled};
+
+/// A member of a set: the values of its columns at their role's place, 0 in
+/// the columns that it does not have.
+type Row = [u32; 6];
+
+/// "its values are whole numbers FIRST..LAST"; a subtype counts "from the
+/// FIRST of its root".
+fn first(d: &Diagram, mut kind: usize) -> u32 {
+    while d.types[kind].over != 0 {
+        kind = d.types[kind].over as usize - 1;
+    }
+    d.types[kind].first
+}
+
+/// The greatest common divisor of two numbers from 1.
+fn gcd(a: usize, b: usize) -> usize {
+    if b == 0 {
+        a
+    } else {
+        gcd(b, a % b)
+    }
+}
+
+/// "pair i, from 0, is member i mod |S| of S and member (i + floor(i / lcm))
+/// mod |T| of T, lcm of the two sizes"; "keeping the smaller of the count
+/// wanted and |S| times |T|".
+fn pair(s: &[Row], t: &[Row], wanted: usize) -> Vec<Row> {
+    let lcm = s.len() / gcd(s.len(), t.len()) * t.len();
+    let mut pairs = Vec::new();
+    for i in 0..wanted.min(s.len() * t.len()) {
+        let (left, right) = (s[i % s.len()], t[(i + i / lcm) % t.len()]);
+        pairs.push(std::array::from_fn(|column| left[column] | right[column]));
+    }
+    pairs
+}
+
+/// "Three or more sets pair from the left"; "a single set is taken as it is".
+fn pair_all(sets: Vec<Vec<Row>>, wanted: usize) -> Vec<Row> {
+    let mut sets = sets.into_iter();
+    let left = sets.next().unwrap_or_default();
+    sets.fold(left, |left, right| pair(&left, &right, wanted))
+}
+
+/// "A group pairs its roles to q; a predicate pairs its groups, then its
+/// ungrouped roles, to r; each kind in file order".
+fn rows(pred: &Predicate, roles: Vec<Vec<Row>>, q: &[u32], r: u32) -> Vec<Row> {
+    let of = |group: u32| -> Vec<Vec<Row>> {
+        let named = pred.roles.iter().zip(&roles);
+        named
+            .filter(|(role, _)| role.group == group)
+            .map(|(_, members)| members.clone())
+            .collect()
+    };
+    let mut sets = Vec::new();
+    for (g, size) in (1..).zip(q) {
+        sets.push(pair_all(of(g), *size as usize));
+    }
+    sets.extend(of(0));
+    pair_all(sets, r as usize)
+}
+
+/// "per type, its size and values; per predicate, its size and rows".
+fn length(d: &Diagram, sizes: &[u32]) -> usize {
+    let widths = d.types.iter().map(|_| 1);
+    let widths = widths.chain(d.preds.iter().map(|p| p.roles.len()));
+    let cells = sizes.iter().zip(widths).map(|(n, w)| 1 + *n as usize * w);
+    cells.sum()
+}
+
+/// "the fill the cells"; "Then 7 (check and fill only), then 8".
+pub fn populate(table: &[u32], cells: &mut [u32]) -> Result<Settled, Refusal> {
+    let d = form(table)?;
+    let (rounds, sizes) = settle(&d)?;
+    let length = length(&d, &sizes);
+    room(length, cells)?;
+    let (a, rest) = sizes.split_at(d.types.len());
+    let (r, rest) = rest.split_at(d.preds.len());
+    let (mut p, mut q) = rest.split_at(d.count_roles());
+    let mut at = 0;
+    let mut put = |value: u32| {
+        cells[at] = value;
+        at += 1;
+    };
+    // "Type: the first a values from the FIRST of its root."
+    for (kind, size) in a.iter().enumerate() {
+        put(*size);
+        (0..*size).for_each(|i| put(first(&d, kind) + i));
+    }
+    // "Roles of one type, in file order, take its members onward from where
+    // the previous role stopped, around to the first again."
+    let mut stopped = [0; 32];
+    for (pred, size) in d.preds.iter().zip(r) {
+        let mut roles = Vec::new();
+        for (column, role) in pred.roles.iter().enumerate() {
+            let kind = role.kind as usize - 1;
+            let mut members = Vec::new();
+            for _ in 0..p[0] {
+                let mut row = [0; 6];
+                row[column] = first(&d, kind) + stopped[kind];
+                members.push(row);
+                stopped[kind] = (stopped[kind] + 1) % a[kind];
+            }
+            roles.push(members);
+            p = &p[1..];
+        }
+        let (own, others) = q.split_at(pred.groups.len());
+        q = others;
+        // "Columns stand in role order, in cells and in print."
+        put(*size);
+        for row in rows(pred, roles, own, *size) {
+            row[..pred.roles.len()].iter().for_each(|value| put(*value));
+        }
+    }
+    Ok(Settled { rounds, length })
+}

@@ -1,0 +1,72 @@
+//! The C library under test, linked as the static archive `libcapi.a`. Each
+//! call has an answer of four numbers.
+
+pub type Answer = [u64; 4];
+
+/// A number that no call answers, to see that the library writes every one.
+const UNANSWERED: u64 = u64::MAX - 1;
+
+#[link(name = "capi", kind = "static", modifiers = "-bundle")]
+extern "C" {
+    fn legshorgan_read(
+        text: *const u8,
+        text_length: usize,
+        table: *mut u32,
+        table_length: usize,
+        answer: *mut u64,
+    );
+    fn legshorgan_check(
+        table: *const u32,
+        table_length: usize,
+        sizes: *mut u32,
+        sizes_length: usize,
+        answer: *mut u64,
+    );
+    fn legshorgan_populate(
+        table: *const u32,
+        table_length: usize,
+        cells: *mut u32,
+        cells_length: usize,
+        answer: *mut u64,
+    );
+    fn legshorgan_write(
+        table: *const u32,
+        table_length: usize,
+        text: *mut u8,
+        text_length: usize,
+        answer: *mut u64,
+    );
+    fn legshorgan_validate(
+        table: *const u32,
+        table_length: usize,
+        cells: *const u32,
+        cells_length: usize,
+        answer: *mut u64,
+    );
+}
+
+/// A wrapper around one call with an input and lent space.
+macro_rules! call {
+    ($name:ident, $symbol:ident, $input:ty, $lent:ty, $pointer:ident) => {
+        pub fn $name(input: &[$input], lent: $lent) -> Answer {
+            let mut answer = [UNANSWERED; 4];
+            // SAFETY: every pointer is given with the length of its slice.
+            unsafe {
+                $symbol(
+                    input.as_ptr(),
+                    input.len(),
+                    lent.$pointer(),
+                    lent.len(),
+                    answer.as_mut_ptr(),
+                );
+            }
+            answer
+        }
+    };
+}
+
+call!(read, legshorgan_read, u8, &mut [u32], as_mut_ptr);
+call!(check, legshorgan_check, u32, &mut [u32], as_mut_ptr);
+call!(populate, legshorgan_populate, u32, &mut [u32], as_mut_ptr);
+call!(write, legshorgan_write, u32, &mut [u8], as_mut_ptr);
+call!(validate, legshorgan_validate, u32, &[u32], as_ptr);

@@ -1,0 +1,773 @@
+//! Seeded random inputs: diagrams, damaged texts, tables and cells, and
+//! lengths of lent space.
+
+use crate::{settle, Diagram, Group, Predicate, Role, Type};
+
+/// A splitmix generator: the same seed gives the same inputs.
+pub struct Random {
+    state: u64,
+}
+
+impl Random {
+    pub fn new(seed: u64) -> Random {
+        Random { state: seed }
+    }
+
+    /// The next 64 bits.
+    pub fn bits(&mut self) -> u64 {
+        self.state = self.state.wrapping_add(0x9E37_79B9_7F4A_7C15);
+        let mut z = self.state;
+        z = (z ^ (z >> 30)).wrapping_mul(0xBF58_476D_1CE4_E5B9);
+        z = (z ^ (z >> 27)).wrapping_mul(0x94D0_49BB_1331_11EB);
+        z ^ (z >> 31)
+    }
+
+    /// A number below a limit, which is at least 1.
+    pub fn below(&mut self, limit: usize) -> usize {
+        (self.bits() % limit as u64) as usize
+    }
+
+    /// A number from low to high, both included.
+    pub fn between(&mut self, low: u32, high: u32) -> u32 {
+        low + (self.bits() % (u64::from(high - low) + 1)) as u32
+    }
+
+    /// True in so many of a hundred cases.
+    pub fn chance(&mut self, percent: usize) -> bool {
+        self.below(100) < percent
+    }
+
+    /// One of the items.
+    pub fn pick<T: Copy>(&mut self, items: &[T]) -> T {
+        items[self.below(items.len())]
+    }
+
+    /// The items in random order.
+    pub fn shuffle<T>(&mut self, items: &mut [T]) {
+        for i in (1..items.len()).rev() {
+            items.swap(i, self.below(i + 1));
+        }
+    }
+}
+
+/// Numbers at and around the limits of document 01.
+#[rustfmt::skip]
+const NUMBERS: [u32; 26] = [
+    0, 1, 2, 3, 5, 6, 7, 9, 10, 31, 32, 33, 47, 48, 49, 95, 96, 97, 4095, 4096, 4097,
+    999_998, 999_999, 1_000_000, 2_147_483_648, u32::MAX,
+];
+
+/// The outline of a diagram: the most types, predicates, roles and groups of
+/// a predicate, and the largest size.
+struct Outline {
+    types: u32,
+    preds: u32,
+    roles: usize,
+    groups: usize,
+    size: u32,
+}
+
+/// Small outlines mostly, some with many sets, some with large sizes.
+fn outline(random: &mut Random) -> Outline {
+    let (types, preds, roles, groups, size) = match random.below(100) {
+        0..35 => (3, 2, 3, 2, 6),
+        35..60 => (6, 5, 4, 3, 12),
+        60..70 => (4, 3, 6, 6, 5),
+        70..80 => (32, 32, 3, 2, 8),
+        80..85 => (32, 32, 6, 6, 4),
+        85..95 => (4, 3, 3, 2, 100),
+        _ => (4, 3, 4, 2, 4096),
+    };
+    Outline {
+        types,
+        preds,
+        roles,
+        groups,
+        size,
+    }
+}
+
+/// A root or a subtype with floor 1.
+fn kind(random: &mut Random, own: u32, size: u32) -> Type {
+    let max = match random.below(10) {
+        0 => 4096,
+        1 => 1,
+        _ => random.between(1, size),
+    };
+    let over = match random.below(8) {
+        0 => own - 1,
+        1 => random.between(0, own - 1),
+        _ => 0,
+    };
+    // As many values as MAX, fewer, more, many more.
+    let extent = match random.below(8) {
+        0..2 => max,
+        2 => random.between(1, max),
+        3 => max + random.between(0, 900_000),
+        _ => max + random.between(0, 100),
+    };
+    let first = match random.below(5) {
+        0 => 0,
+        1 => 1_000_000 - extent,
+        2 => random.between(0, 1_000_000 - extent),
+        _ => 1,
+    };
+    let root = over == 0;
+    Type {
+        min: 1,
+        max,
+        first: if root { first } else { 0 },
+        last: if root { first + extent - 1 } else { 0 },
+        over,
+        indep: u32::from(random.chance(50)),
+    }
+}
+
+/// A frequency: uniqueness, at most a number, from a number, equal numbers.
+fn frequency(random: &mut Random, size: u32) -> Group {
+    let size = size.min(4000);
+    let (fmin, fmax) = match random.below(10) {
+        0..3 => (1, 1),
+        3..6 => (1, random.between(1, size)),
+        6 => (1, 4096),
+        7 => (2, random.between(2, size + 2)),
+        8 => {
+            let n = random.between(1, 3);
+            (n, n)
+        }
+        _ => {
+            let n = random.between(1, size);
+            (n, n + random.between(0, 3))
+        }
+    };
+    Group { fmin, fmax }
+}
+
+/// A predicate with floor 1, within the roles and groups still to be had.
+fn predicate(random: &mut Random, types: u32, o: &Outline, left: (usize, usize)) -> Predicate {
+    let count = 1 + random.below(o.roles.min(left.0));
+    let most = o.groups.min(left.1).min(count);
+    let named = match random.below(10) {
+        0..5 => random.below(most + 1),
+        5..7 => most,
+        _ => 0,
+    };
+    // The first roles in a random order name one group each.
+    let mut order: Vec<usize> = (0..count).collect();
+    random.shuffle(&mut order);
+    let mut roles = Vec::new();
+    for place in order {
+        let group = match place < named {
+            true => place as u32 + 1,
+            false => random.between(0, named as u32),
+        };
+        roles.push(Role {
+            kind: random.between(1, types),
+            mand: u32::from(random.chance(25)),
+            group,
+        });
+    }
+    let max = match random.below(10) {
+        0..2 => 4096,
+        2..5 => random.between(1, o.size),
+        _ => random.between(1, o.size * o.size.min(4096 / o.size)),
+    };
+    let groups = (0..named).map(|_| frequency(random, o.size)).collect();
+    Predicate {
+        min: 1,
+        max,
+        roles,
+        groups,
+    }
+}
+
+/// Most floors are 1; others are raised to the settled size, or one above it,
+/// and some ceilings are lowered to the settled size.
+fn tighten(random: &mut Random, d: &mut Diagram) {
+    let Ok((_, sizes)) = settle(d) else { return };
+    let tight = random.pick(&[0, 0, 20, 60]);
+    let passed = random.below(sizes.len() * 2);
+    let types = d.types.iter_mut().map(|t| (&mut t.min, &mut t.max));
+    let preds = d.preds.iter_mut().map(|p| (&mut p.min, &mut p.max));
+    for (i, ((min, max), size)) in types.chain(preds).zip(sizes).enumerate() {
+        if random.chance(tight) {
+            *min = match random.chance(70) {
+                true => size,
+                false => random.between(1, size),
+            };
+        }
+        if random.chance(tight) {
+            *max = size;
+        }
+        if i == passed && tight > 0 {
+            *min = match random.chance(70) {
+                true => (size + 1).min(*max),
+                false => *max,
+            };
+        }
+    }
+}
+
+/// Takes away what empties sets most often, so that more are satisfiable.
+fn relax(random: &mut Random, d: &mut Diagram) {
+    for pred in &mut d.preds {
+        for (own, group) in (1..).zip(&mut pred.groups) {
+            let others = pred.roles.iter().filter(|role| role.group != own);
+            let fmin = match others.count() > 0 && random.chance(30) {
+                true => random.between(1, 3),
+                false => 1,
+            };
+            group.fmin = fmin.min(group.fmax);
+        }
+    }
+    for (own, t) in (1..).zip(&mut d.types) {
+        let mut roles = d.preds.iter().flat_map(|pred| &pred.roles);
+        if roles.all(|role| role.kind != own) {
+            t.indep = 1;
+        }
+    }
+}
+
+/// Types in a ring of predicates with nearly equal frequencies, which lower
+/// each other slowly, with free predicates that may stop this.
+fn ring(random: &mut Random) -> Diagram {
+    let count = random.between(1, 4);
+    let size = random.pick(&[50, 300, 4096]);
+    let times = random.between(1, 60);
+    let types = (1..=count).map(|own| kind(random, own, size)).collect();
+    let mut preds = Vec::new();
+    for own in 1..=count {
+        let mut roles = Vec::new();
+        for (kind, group) in [(own, 1), (own % count + 1, 2)] {
+            let mand = u32::from(random.chance(60));
+            roles.push(Role { kind, mand, group });
+        }
+        let (fmin, high) = (random.between(1, times), times + random.between(0, 1));
+        let slow = Group { fmin, fmax: times };
+        let equal = Group {
+            fmin: high,
+            fmax: high,
+        };
+        preds.push(Predicate {
+            min: 1,
+            max: 4096,
+            roles,
+            groups: vec![slow, equal],
+        });
+        let o = outline(random);
+        preds.push(predicate(random, count, &o, (6, 2)));
+    }
+    Diagram { types, preds }
+}
+
+/// A root with about as many values as its floor: one may be emptied at the
+/// start.
+fn short_root(random: &mut Random, d: &mut Diagram) {
+    let own = random.below(d.types.len());
+    let t = &mut d.types[own];
+    if t.over == 0 {
+        t.min = random.between(t.min, t.max);
+        let extent = t.min.saturating_sub(random.between(0, 2)).max(1);
+        t.last = (t.first + extent - 1).min(999_999);
+    }
+}
+
+/// A valid diagram.
+pub fn diagram(random: &mut Random) -> Diagram {
+    if random.chance(5) {
+        let mut d = ring(random);
+        tighten(random, &mut d);
+        return d;
+    }
+    let o = outline(random);
+    let full = random.chance(40);
+    let many = |random: &mut Random, most: u32| match full {
+        true => most,
+        false => random.between(1, most),
+    };
+    let (types, preds) = (many(random, o.types), many(random, o.preds));
+    let mut d = Diagram {
+        types: (1..=types).map(|own| kind(random, own, o.size)).collect(),
+        preds: Vec::new(),
+    };
+    let mut left = (96, 48);
+    for k in 0..preds as usize {
+        // One role is kept for each predicate still to come.
+        let later = preds as usize - 1 - k;
+        let pred = predicate(random, types, &o, (left.0 - later, left.1));
+        left = (left.0 - pred.roles.len(), left.1 - pred.groups.len());
+        d.preds.push(pred);
+    }
+    if random.chance(70) {
+        relax(random, &mut d);
+    }
+    tighten(random, &mut d);
+    if random.chance(3) {
+        short_root(random, &mut d);
+    }
+    d
+}
+
+/// Predicates with totals of roles and groups at their limits or past them.
+fn totals(random: &mut Random, d: &mut Diagram) {
+    let mut o = outline(random);
+    (o.roles, o.groups) = (6, 6);
+    let mut left = (
+        random.between(94, 98) as usize,
+        random.between(46, 50) as usize,
+    );
+    d.preds.clear();
+    while left.0 > 0 {
+        let pred = predicate(random, d.types.len() as u32, &o, left);
+        left = (left.0 - pred.roles.len(), left.1 - pred.groups.len());
+        d.preds.push(pred);
+    }
+    d.preds.truncate(33);
+}
+
+/// A diagram with a fault that one line can have.
+pub fn faulty_diagram(random: &mut Random) -> Diagram {
+    let mut d = diagram(random);
+    let types = d.types.len() as u32;
+    let own = random.below(d.types.len());
+    let at = random.below(d.preds.len());
+    let role = random.below(d.preds[at].roles.len());
+    let group = random.below(d.preds[at].groups.len().max(1));
+    let t = &mut d.types[own];
+    let p = &mut d.preds[at];
+    match random.below(12) {
+        0 => t.over = random.between(own as u32 + 1, 33),
+        1 => t.max = random.between(0, t.min),
+        2 => (t.first, t.last) = (t.last + 1, t.first),
+        3 => t.min = random.between(t.max, 4097),
+        4 => p.max = random.between(0, p.min),
+        5 => p.roles[role].kind = random.between(types, 33),
+        6 => p.roles[role].group = random.between(p.groups.len() as u32, 7),
+        7 => p.roles.iter_mut().for_each(|role| role.group /= 2),
+        8 | 9 if !p.groups.is_empty() => {
+            let group = &mut p.groups[group];
+            group.fmax = random.between(0, group.fmin);
+        }
+        8 | 9 => p.groups.push(Group { fmin: 1, fmax: 2 }),
+        10 => totals(random, &mut d),
+        _ => {
+            let more = d.types[own].clone();
+            d.types
+                .resize(random.pick(&[32, 33]).max(d.types.len()), more);
+        }
+    }
+    d
+}
+
+/// Where each line of the text starts, and its length with the line feed.
+fn spans(text: &[u8]) -> Vec<(usize, usize)> {
+    let mut at = 0;
+    let mut spans = Vec::new();
+    for line in text.split_inclusive(|byte| *byte == 10) {
+        spans.push((at, line.len()));
+        at += line.len();
+    }
+    spans
+}
+
+/// The text with one number of it replaced.
+fn renumber(random: &mut Random, text: &mut Vec<u8>) {
+    let starts =
+        |i: &usize| text[*i].is_ascii_digit() && (*i == 0 || !text[i - 1].is_ascii_digit());
+    let places: Vec<usize> = (0..text.len()).filter(starts).collect();
+    if places.is_empty() {
+        return;
+    }
+    let last = places[places.len() - 1];
+    let start = match random.chance(10) {
+        true => last,
+        false => random.pick(&places),
+    };
+    let rest = text[start..].iter();
+    let length = rest.take_while(|byte| byte.is_ascii_digit()).count();
+    let old = String::from_utf8_lossy(&text[start..start + length]).into_owned();
+    let value: u64 = old.parse().unwrap_or(0);
+    let new = match random.below(8) {
+        0 => format!("0{old}"),
+        1 => format!("{}", value + 1),
+        2 => format!("{}", value.saturating_sub(1)),
+        3 => random
+            .pick(&["", "-1", "+1", "1.", "00", "0x1", " 1", "1 "])
+            .into(),
+        4 => format!("{}", random.bits() >> random.below(64)),
+        5 => format!("{old},{old}"),
+        _ => format!("{}", random.pick(&NUMBERS)),
+    };
+    text.splice(start..start + length, new.into_bytes());
+}
+
+/// One damage to a text.
+fn damage_text(random: &mut Random, text: &mut Vec<u8>) {
+    const BYTES: &[u8] = b"0123456789,=\n\r -dtprfe\x00\xff";
+    let lines = spans(text);
+    if lines.is_empty() {
+        text.extend(b"\n");
+        return;
+    }
+    let (start, length) = random.pick(&lines);
+    let line = text[start..start + length].to_vec();
+    let at = random.below(text.len());
+    match random.below(20) {
+        0 => text[at] ^= 1 << random.below(8),
+        1 => text[at] = random.pick(BYTES),
+        2 => drop(text.remove(at)),
+        3 => text.insert(at, random.pick(BYTES)),
+        4 => drop(text.drain(start..start + length)),
+        5 => drop(text.splice(start..start, line)),
+        6 => {
+            // Two lines change places.
+            let (other, size) = random.pick(&lines);
+            let ((a, m), (b, n)) = if start < other {
+                ((start, length), (other, size))
+            } else {
+                ((other, size), (start, length))
+            };
+            if a < b {
+                let parts = [&text[b..b + n], &text[a + m..b], &text[a..a + m]].concat();
+                text.splice(a..b + n, parts);
+            }
+        }
+        7 => text.truncate(at),
+        8 => text.truncate(start),
+        9 => drop(text.pop()),
+        10 => text.extend(line),
+        11 => text.push(random.pick(BYTES)),
+        12 => text.insert(start + length - 1, b'\r'),
+        13 => {
+            let whole = String::from_utf8_lossy(text).replace('\n', "\r\n");
+            *text = whole.into_bytes();
+        }
+        14 => text.insert(start + length - 1, b','),
+        15 => text.extend(std::iter::repeat_n(b'9', random.below(5000))),
+        16 if random.chance(20) => {
+            *text = (0..random.below(60)).map(|_| random.pick(BYTES)).collect();
+        }
+        _ => renumber(random, text),
+    }
+}
+
+/// A valid text, a text of a faulty diagram, or a damaged one.
+pub fn text(random: &mut Random) -> Vec<u8> {
+    match random.below(10) {
+        0..3 => diagram(random).text(),
+        3..5 => faulty_diagram(random).text(),
+        _ => {
+            let mut text = diagram(random).text();
+            for _ in 0..random.pick(&[1, 1, 1, 2, 3]) {
+                damage_text(random, &mut text);
+            }
+            text
+        }
+    }
+}
+
+/// A number near another, at a limit, or of any size.
+fn other_number(random: &mut Random, old: u32) -> u32 {
+    match random.below(6) {
+        0 => old.wrapping_add(1),
+        1 => old.wrapping_sub(1),
+        2 => random.bits() as u32,
+        3 => (random.bits() as u32) >> random.below(32),
+        _ => random.pick(&NUMBERS),
+    }
+}
+
+/// One damage to a list of numbers.
+fn damage_numbers(random: &mut Random, numbers: &mut Vec<u32>) {
+    if numbers.is_empty() {
+        numbers.push(random.pick(&NUMBERS));
+        return;
+    }
+    let at = random.below(numbers.len());
+    let last = numbers.len() - 1;
+    match random.below(13) {
+        0 => numbers.truncate(at),
+        1 => drop(numbers.pop()),
+        2 => numbers.push(random.pick(&NUMBERS)),
+        3 => drop(numbers.remove(at)),
+        4 => numbers.insert(at, random.pick(&NUMBERS)),
+        5 => {
+            let other = random.below(numbers.len());
+            numbers.swap(at, other);
+        }
+        6 if random.chance(20) => {
+            let length = random.below(40);
+            *numbers = (0..length).map(|_| other_number(random, 1)).collect();
+        }
+        7 => numbers[last] = other_number(random, numbers[last]),
+        _ => numbers[at] = other_number(random, numbers[at]),
+    }
+}
+
+/// A table of a faulty diagram, or a damaged table.
+pub fn damaged_table(random: &mut Random) -> Vec<u32> {
+    if random.chance(40) {
+        return faulty_diagram(random).table();
+    }
+    let mut table = diagram(random).table();
+    for _ in 0..random.pick(&[1, 1, 1, 2, 4]) {
+        damage_numbers(random, &mut table);
+    }
+    table
+}
+
+/// Cells taken apart: the values of each type, the rows of each predicate.
+struct Parts {
+    types: Vec<Vec<u32>>,
+    preds: Vec<Vec<Vec<u32>>>,
+}
+
+impl Parts {
+    fn new(d: &Diagram, mut cells: &[u32]) -> Parts {
+        let mut part = |width: usize| {
+            let (own, rest) = cells[1..].split_at(cells[0] as usize * width);
+            cells = rest;
+            own.to_vec()
+        };
+        let types = d.types.iter().map(|_| part(1)).collect();
+        let mut preds = Vec::new();
+        for width in d.preds.iter().map(|pred| pred.roles.len()) {
+            let rows = part(width);
+            preds.push(rows.chunks(width).map(<[u32]>::to_vec).collect());
+        }
+        Parts { types, preds }
+    }
+
+    fn cells(&self) -> Vec<u32> {
+        let mut cells = Vec::new();
+        for values in &self.types {
+            cells.push(values.len() as u32);
+            cells.extend(values);
+        }
+        for rows in &self.preds {
+            cells.push(rows.len() as u32);
+            cells.extend(rows.iter().flatten());
+        }
+        cells
+    }
+}
+
+/// The index of the root of a type.
+fn root(d: &Diagram, mut kind: usize) -> usize {
+    while d.types[kind].over != 0 {
+        kind = d.types[kind].over as usize - 1;
+    }
+    kind
+}
+
+/// The same population with other values: each root's are spread one to one
+/// over its FIRST..LAST.
+fn rename(random: &mut Random, d: &Diagram, parts: &mut Parts) {
+    let (factor, shift) = (
+        random.pick(&[1, 3, 4099, 65_537]),
+        random.bits() % 1_000_000,
+    );
+    let name = |kind: u32, value: &mut u32| {
+        let t = &d.types[root(d, kind as usize - 1)];
+        let extent = u64::from(t.last - t.first + 1);
+        let factor = if extent % factor == 0 { 1 } else { factor };
+        let place = u64::from(*value - t.first) * factor + shift;
+        *value = t.first + (place % extent) as u32;
+    };
+    for (own, values) in (1..).zip(&mut parts.types) {
+        values.iter_mut().for_each(|value| name(own, value));
+    }
+    for (pred, rows) in d.preds.iter().zip(&mut parts.preds) {
+        for row in rows {
+            let cells = pred.roles.iter().zip(row);
+            cells.for_each(|(role, value)| name(role.kind, value));
+        }
+    }
+}
+
+/// One change to a population that keeps its sizes true.
+fn change(random: &mut Random, d: &Diagram, parts: &mut Parts) {
+    let (a, r) = (random.below(d.types.len()), random.below(d.preds.len()));
+    let column = random.below(d.preds[r].roles.len());
+    let played = d.preds[r].roles[column].kind as usize - 1;
+    let known = parts.types[played].first().copied().unwrap_or(7);
+    let known = match parts.types[played].len() {
+        0 => known,
+        _ => random.pick(&parts.types[played]),
+    };
+    let base = &d.types[root(d, a)];
+    let base = match parts.types[root(d, a)].len() {
+        0 => base.first,
+        _ if random.chance(50) => random.between(base.first, base.last),
+        _ => random.pick(&parts.types[root(d, a)]),
+    };
+    let values = &mut parts.types[a];
+    let rows = &mut parts.preds[r];
+    let count = rows.len();
+    match random.below(24) {
+        // A member more, a member fewer, a member changed, one twice.
+        0..3 => values.push(match values.last() {
+            Some(last) => last.wrapping_add(1),
+            None => d.types[a].first,
+        }),
+        3 => drop(values.pop()),
+        4 if !values.is_empty() => {
+            let at = random.below(values.len());
+            values[at] = other_number(random, values[at]);
+        }
+        5 if !values.is_empty() => {
+            let (from, to) = (random.below(values.len()), random.below(values.len()));
+            values[to] = values[from];
+        }
+        20.. if !values.is_empty() && !values.contains(&base) => {
+            let at = random.below(values.len());
+            values[at] = base;
+        }
+        // A row twice, rows fewer, a row more, a cell changed.
+        6 if count > 0 => {
+            let (from, to) = (random.below(count), random.below(count));
+            rows[to] = rows[from].clone();
+        }
+        7..10 if count > 1 => drop(rows.swap_remove(random.below(count))),
+        10..12 => rows.truncate(random.below(count + 1)),
+        12 if count > 0 => {
+            let mut row = rows[random.below(count)].clone();
+            row[column] = known;
+            rows.push(row);
+        }
+        13 if count > 0 => {
+            let row = random.below(count);
+            rows[row][column] = other_number(random, rows[row][column]);
+        }
+        // Two cells of a column change places, or all of them turn by one.
+        14 if count > 0 => {
+            let (i, j) = (random.below(count), random.below(count));
+            (rows[i][column], rows[j][column]) = (rows[j][column], rows[i][column]);
+        }
+        15 if count > 0 => {
+            let mut cell = rows[count - 1][column];
+            for row in rows {
+                std::mem::swap(&mut row[column], &mut cell);
+            }
+        }
+        // A cell, or every cell of a column, changed to a member of its type.
+        16 if count > 0 => rows.iter_mut().for_each(|row| row[column] = known),
+        _ if count > 0 => rows[random.below(count)][column] = known,
+        _ => (),
+    }
+}
+
+/// A random population: as many values as a type may have, at most six, and
+/// rows of members.
+fn random_parts(random: &mut Random, d: &Diagram) -> Parts {
+    let mut types: Vec<Vec<u32>> = Vec::new();
+    for t in &d.types {
+        let size = random.between(t.min, t.max).min(t.min + 5) as usize;
+        types.push(match t.over {
+            0 => (t.first..).take(size).collect(),
+            over => {
+                let values = &types[over as usize - 1];
+                values[..size.min(values.len())].to_vec()
+            }
+        });
+    }
+    let mut preds = Vec::new();
+    for pred in &d.preds {
+        let size = random.between(pred.min, pred.max).min(pred.min + 5);
+        let mut row = || -> Vec<u32> {
+            let roles = pred.roles.iter();
+            roles
+                .map(|role| random.pick(&types[role.kind as usize - 1]))
+                .collect()
+        };
+        let mut rows: Vec<Vec<u32>> = (0..size).map(|_| row()).collect();
+        if random.chance(90) {
+            rows.sort();
+            rows.dedup();
+        }
+        preds.push(rows);
+    }
+    Parts { types, preds }
+}
+
+/// Small random values with sizes that fit.
+fn loose_cells(random: &mut Random, d: &Diagram) -> Vec<u32> {
+    let mut cells = Vec::new();
+    let widths = d.types.iter().map(|_| 1);
+    let widths = widths.chain(d.preds.iter().map(|pred| pred.roles.len()));
+    for width in widths {
+        let size = random.below(4);
+        cells.push(size as u32);
+        cells.extend((0..size * width).map(|_| random.between(0, 4)));
+    }
+    cells
+}
+
+/// Cells for a diagram: its filled population, the same in another order,
+/// damaged versions of it, and random cells.
+pub fn cells(random: &mut Random, d: &Diagram, filled: &[u32]) -> Vec<u32> {
+    let how = random.below(100);
+    if filled.is_empty() || how < 15 {
+        let mut cells = match random.chance(75) {
+            true => random_parts(random, d).cells(),
+            false => loose_cells(random, d),
+        };
+        if random.chance(20) {
+            damage_numbers(random, &mut cells);
+        }
+        return cells;
+    }
+    let mut parts = Parts::new(d, filled);
+    if random.chance(40) {
+        rename(random, d, &mut parts);
+    }
+    if how < 40 {
+        // The order of values and rows is free.
+        parts.types.iter_mut().for_each(|v| random.shuffle(v));
+        parts.preds.iter_mut().for_each(|v| random.shuffle(v));
+    }
+    match how {
+        15..20 | 30..40 => (),
+        20..30 | 40..75 => {
+            for _ in 0..random.pick(&[1, 1, 1, 2, 3]) {
+                change(random, d, &mut parts);
+            }
+        }
+        75..80 => {
+            // A size cell of any value.
+            let sizes = parts.types.iter().map(|values| values.len() + 1);
+            let at = sizes.take(random.below(d.types.len() + 1)).sum::<usize>();
+            let mut cells = parts.cells();
+            let size = cells[at];
+            cells[at] = random.pick(&[0, 1, size + 1, size - 1, 4097, 1 << 31, u32::MAX]);
+            return cells;
+        }
+        _ => {
+            let mut cells = parts.cells();
+            damage_numbers(random, &mut cells);
+            return cells;
+        }
+    }
+    parts.cells()
+}
+
+/// A lent length for a result: enough, one too short, none, more. Any length
+/// where there is no result.
+pub fn lent(random: &mut Random, needed: usize) -> usize {
+    let needed = match needed {
+        0 => random.below(100),
+        _ => needed,
+    };
+    match random.below(10) {
+        0..4 => needed,
+        4..6 => needed.saturating_sub(1),
+        6 => 0,
+        7 => random.below(needed + 1),
+        _ => needed + 1 + random.below(9),
+    }
+}
+
+/// Lent space filled with a pattern, so that every write shows.
+pub fn pattern<T>(random: &mut Random, length: usize, number: impl Fn(u64) -> T) -> Vec<T> {
+    (0..length).map(|_| number(random.bits())).collect()
+}

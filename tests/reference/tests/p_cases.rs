@@ -1,0 +1,110 @@
+//! The cases marked P of document 01, as far as the calls show them.
+
+use reference::{check, populate, program, read, validate, Refusal, Settled, Verdict};
+
+const SAMPLE: &str = "diagram=1\ntypes=2\ntype=1,3,1,9,0,0\ntype=1,2,1,2,0,0\npreds=1\n\
+    pred=1,100,2,1\nrole=1,1,1\nrole=2,0,0\nfreq=1,2\nend=2\n";
+
+fn table(text: &str) -> Vec<u32> {
+    let mut table = [0; 708];
+    let length = read(text.as_bytes(), &mut table).unwrap();
+    table[..length].to_vec()
+}
+
+fn cells(text: &str) -> Vec<u32> {
+    let mut cells = vec![0; 16_000];
+    let length = populate(&table(text), &mut cells).unwrap().length;
+    cells[..length].to_vec()
+}
+
+fn output(text: &str) -> String {
+    String::from_utf8(program(text.as_bytes())).unwrap()
+}
+
+#[test]
+fn p1_the_sample() {
+    let expected = "rounds=4\nsize=3\nsize=2\nsize=6\nsize=3\nsize=2\nsize=3\ntype=1,2,3\n\
+        type=1,2\npred=1\nrow=1,1\nrow=2,2\nrow=3,1\nrow=1,2\nrow=2,1\nrow=3,2\n";
+    assert_eq!(output(SAMPLE), expected);
+    assert_eq!(cells(SAMPLE).len(), 20);
+    let refusal = Refusal {
+        number: 8,
+        place: 20,
+        round: 0,
+    };
+    assert_eq!(populate(&table(SAMPLE), &mut [0; 19]), Err(refusal));
+    let mut sizes = [9; 8];
+    let settled = Settled {
+        rounds: 4,
+        length: 6,
+    };
+    assert_eq!(check(&table(SAMPLE), &mut sizes), Ok(settled));
+    assert_eq!(sizes, [3, 2, 6, 3, 2, 3, 9, 9]);
+    let valid = Verdict {
+        constraint: 0,
+        number: 0,
+    };
+    assert_eq!(validate(&table(SAMPLE), &cells(SAMPLE)), Ok(valid));
+    let refusal = Refusal {
+        number: 9,
+        place: 3,
+        round: 0,
+    };
+    assert_eq!(validate(&table(SAMPLE), &[3, 1, 2]), Err(refusal));
+}
+
+#[test]
+fn p2_p3_p8_p9_emptied() {
+    let p2 = "diagram=1\ntypes=2\ntype=1000,4096,1,9999,0,0\ntype=1,2,1,2,0,0\npreds=1\n\
+        pred=1,4096,2,2\nrole=1,1,1\nrole=2,0,2\nfreq=1,1\nfreq=1,1\nend=2\n";
+    assert_eq!(output(p2), "refused=7,1,5\n");
+    let p3 = "diagram=1\ntypes=2\ntype=1,10,1,10,0,0\ntype=1,2,1,2,0,0\npreds=1\n\
+        pred=1,100,2,1\nrole=1,0,1\nrole=2,0,0\nfreq=3,3\nend=2\n";
+    assert_eq!(output(p3), "refused=7,6,12\n");
+    let p8 = SAMPLE.replace("types=2", "types=3");
+    let p8 = p8.replace("preds=1", "type=1,5,1,5,0,0\npreds=1");
+    assert_eq!(output(&p8), "refused=7,3,1\n");
+    let p9 = SAMPLE.replace("type=1,3,1,9,0,0", "type=3,5,1,2,0,1");
+    assert_eq!(output(&p9), "refused=7,1,0\n");
+}
+
+#[test]
+fn p4_p5_pairing() {
+    let p4 = "diagram=1\ntypes=1\ntype=1,2,0,1,0,1\npreds=1\npred=1,4,2,0\nrole=1,0,0\n\
+        role=1,0,0\nend=2\n";
+    assert_eq!(cells(p4), [2, 0, 1, 4, 0, 0, 1, 1, 0, 1, 1, 0]);
+    let p5 = "diagram=1\ntypes=3\ntype=1,4,0,3,0,1\ntype=1,6,0,5,0,1\ntype=1,2,0,1,0,1\n\
+        preds=1\npred=1,15,3,0\nrole=1,0,0\nrole=2,0,0\nrole=3,0,0\nend=3\n";
+    let cells = cells(p5);
+    let rows: Vec<&[u32]> = cells[16..].chunks(3).collect();
+    assert_eq!(rows.len(), 15);
+    assert_eq!(rows[9], [1, 3, 1]);
+    assert_eq!(rows[12], [0, 1, 0]);
+    assert_eq!(rows[14], [2, 3, 0]);
+}
+
+#[test]
+fn p6_p7_members() {
+    let p6 = "diagram=1\ntypes=1\ntype=1,4,1,4,0,1\npreds=2\npred=1,3,1,0\nrole=1,0,0\n\
+        pred=1,3,1,0\nrole=1,0,0\nend=2\n";
+    assert_eq!(cells(p6), [4, 1, 2, 3, 4, 3, 1, 2, 3, 3, 4, 1, 2]);
+    let p7 = "diagram=1\ntypes=3\ntype=1,2,5,6,0,1\ntype=1,2,0,0,1,1\ntype=1,2,0,0,1,1\n\
+        preds=1\npred=1,1,1,0\nrole=1,0,0\nend=1\n";
+    assert_eq!(cells(p7), [2, 5, 6, 2, 5, 6, 2, 5, 6, 1, 5]);
+}
+
+#[test]
+fn p10_p11_and_the_examples_of_refusals() {
+    assert_eq!(output("diagram=1\ntypes=32\n"), "refused=1,3,0\n");
+    assert_eq!(output("diagram=1\ntypes=33\n"), "refused=2,2,0\n");
+    assert_eq!(output("diagram=1\ntypes=02\n"), "refused=1,2,0\n");
+    let three = "diagram=1\ntypes=1\ntype=1,5,0,0,1,0\n";
+    assert_eq!(output(three), "refused=3,3,0\n");
+    let four = SAMPLE.replace("freq=1,2", "freq=3,2");
+    assert_eq!(output(&four), "refused=4,9,0\n");
+    let five = "diagram=1\ntypes=1\ntype=1,5,0,9,0,0\npreds=1\npred=1,9,1,1\nrole=1,0,0\n\
+        freq=1,1\nend=1\n";
+    assert_eq!(output(five), "refused=5,7,0\n");
+    let six = SAMPLE.replace("end=2", "end=3");
+    assert_eq!(output(&six), "refused=6,10,0\n");
+}

@@ -1,5 +1,5 @@
 -- The check of a table: what the reader says of it, and what a valid one leads to.
-use Prim.Native.Nat.{ℕ, suc, _≤_}
+use Prim.Native.Nat.{ℕ, suc, _≤_, _<_}
 use native.Mathlib.Omega.{arith}
 use mathlib.Core.Path.{_≡_, refl, sym, ap, _∙_}
 use mathlib.Core.List.{List}
@@ -19,13 +19,13 @@ use Rattle.reader.specs.declared.FormAnswer.the-variants as forms
 use Rattle.rounds.specs.Answer.{Bounds}
 use Rattle.lowering.specs.Encoding.{encode, decode}
 use Rattle.buffer.specs.Written.{Wrote}
-use Rattle.buffer.specs.Laws.{wrote-front, wrote-within}
+use Rattle.buffer.specs.Laws.{wrote-front, wrote-within, wrote-long, wrote-fit}
 use Rattle.table.specs.Positions.{diagramOf}
 use Rattle.table.specs.Valid.{Valid}
 use Rattle.table.specs.Laws.Valid.{accepted-valid}
-use Rattle.limits.specs.Laws.Decoded.{limits-decode}
+use Rattle.lowering.specs.Laws.Decoding.{decode-encode}
 use Rattle.limits.specs.Laws.Room.{start-bounds, limits-fit, lower-fits, upper-fits}
-use Rattle.bounds.specs.Answer.{checkOf, ended, Answered, Scratch}
+use Rattle.bounds.specs.Answer.{checkOf, ended, Answered, Limits, Scratch}
 use Rattle.bounds.specs.declared.CheckAnswer.{CheckAnswer}
 use Rattle.bounds.specs.declared.CheckAnswer.the-variants.{Refused}
 
@@ -95,19 +95,20 @@ module _ {t : List ℕ} (v : Valid t) where
   check-is space =
       ap (λ (o : Outcome Diagram). o >>= λ d. settledInto (λ c. c) d space) (v .reads) ∙ settled-is (diagramOf t) space
 
-  -- what was written into the scratch `l`, `a` and `b`
-  module _ {l a b : List ℕ} (scratch : Scratch l a b) where
-    limits-room : length (encode (limits (diagramOf t))) ≤ length l
-    limits-room = omega (arith, limits-fit (diagramOf t) (v .formed), scratch .limits)
+  -- the limits, where there was room for them
+  pub limits-fill : {l l′ : List ℕ} {m : ℕ} → length l ≡ 6752 → Wrote l 0 (encode (limits (diagramOf t))) l′ m → m ≤ length l′
+  limits-fill h w = wrote-within w (omega (arith, limits-fit (diagramOf t) (v .formed)))
 
+  pub limits-whole : {l l′ : List ℕ} {m : ℕ} → length l ≡ 6752 → Wrote l 0 (encode (limits (diagramOf t))) l′ m → Limits t (take m l′)
+  limits-whole h w = record { are = wrote-front w (omega (arith, limits-fit (diagramOf t) (v .formed))) }
+
+  -- what was written into the scratch `a` and `b`
+  module _ {a b : List ℕ} (scratch : Scratch a b) where
     lower-room : length (lower (diagramOf t)) ≤ length a
     lower-room = omega (arith, lower-fits (diagramOf t) (v .formed), scratch .lower)
 
     upper-room : length (upper (diagramOf t)) ≤ length b
     upper-room = omega (arith, upper-fits (diagramOf t) (v .formed), scratch .upper)
-
-    pub limits-within : {l′ : List ℕ} {m : ℕ} → Wrote l 0 (encode (limits (diagramOf t))) l′ m → m ≤ length l′
-    limits-within w = wrote-within w limits-room
 
     pub lower-within : {a′ : List ℕ} {n : ℕ} → Wrote a 0 (lower (diagramOf t)) a′ n → n ≤ length a′
     lower-within w = wrote-within w lower-room
@@ -119,14 +120,23 @@ module _ {t : List ℕ} (v : Valid t) where
       pub check-bounds : Bounds (take n a′) (take k b′)
       check-bounds = rw (wrote-front wa lower-room, wrote-front wb upper-room) (start-bounds (diagramOf t) (v .formed))
 
-      pub checked : {l′ s s′ : List ℕ} {m : ℕ} {r : CheckAnswer} → Wrote l 0 (encode (limits (diagramOf t))) l′ m
-          → Answered (ended (run (decode (take m l′)) (take n a′) (take k b′)) (length s)) r s s′ → Answered (checkCall t (length s)) r s s′
+      pub checked : {l s s′ : List ℕ} {r : CheckAnswer} → Limits t l
+          → Answered (ended (run (decode l) (take n a′) (take k b′)) (length s)) r s s′ → Answered (checkCall t (length s)) r s s′
       unfolding verdict
-      checked {s = s} wl h =
+      checked {s = s} e h =
           rw (check-is (length s))
-          (rw (
-            limits-decode (diagramOf t) (v .formed)
-                (omega (arith, scratch .limits)) wl,
-            wrote-front wa lower-room,
-            wrote-front wb upper-room,
-          ) at h)
+          (rw (ap decode (e .are) ∙ decode-encode (limits (diagramOf t)), wrote-front wa lower-room, wrote-front wb upper-room) at h)
+
+-- a buffer that is not full has all that was to be written
+module _ (t : List ℕ) {l l′ : List ℕ} {m : ℕ} (w : Wrote l 0 (encode (limits (diagramOf t))) l′ m) (few : m < 512) (long : length l ≡ 512) where
+  not-full : m < length l′
+  not-full = omega (arith, wrote-long w)
+
+  fits : length (encode (limits (diagramOf t))) ≤ length l
+  fits = omega (arith, wrote-fit w not-full)
+
+  pub small-within : m ≤ length l′
+  small-within = wrote-within w fits
+
+  pub small-whole : Limits t (take m l′)
+  small-whole = record { are = wrote-front w fits }

@@ -5,6 +5,9 @@ use mathlib.Core.List.{List}
 use lib.ListN.{length}
 use Rattle.fixpoint.specs.Limits.{Verdict, unsatisfiable, fixpoint}
 use Rattle.orm.specs.Outcome.{Outcome, refused, accepted, _>>=_, fitted, bufferAfter, Sized, written, Handed, handedBack}
+use Rattle.orm.specs.Sets.{limits}
+use Rattle.lowering.specs.Encoding.{encode}
+use Rattle.table.specs.Positions.{diagramOf}
 use Rattle.grammar.specs.Fault.{numberOf}
 use Rattle.bounds.specs.declared.CheckAnswer.{CheckAnswer}
 use Rattle.bounds.specs.declared.CheckAnswer.the-variants.{Refused, Unsatisfiable, TooShort, Accepted}
@@ -26,8 +29,11 @@ pub record Answered (o : Outcome Sized) (r : CheckAnswer) (before after : List �
   pub handed : checkOf r ≡ handedBack o
   pub buffer : after ≡ bufferAfter (written o) before
 
--- Room for the limits and for the bounds of every diagram
-pub record Scratch (l a b : List ℕ) : Type 0 where
-  pub limits : length l ≡ 6752
+-- The limits of a table's diagram, as numbers
+pub record Limits (t l : List ℕ) : Type 0 where
+  pub are : l ≡ encode (limits (diagramOf t))
+
+-- Room for the bounds of every diagram
+pub record Scratch (a b : List ℕ) : Type 0 where
   pub lower : length a ≡ 208
   pub upper : length b ≡ 208

@@ -8,7 +8,7 @@ ghost use Rattle.rounds.specs.Answer.{Bounds};
 ghost use Rattle.table.specs.Valid.{Valid};
 ghost use Rattle.orm.specs.Outcome.{bufferAfter, written, handedBack};
 ghost use Rattle.orm.specs.Calls.{checkCall};
-ghost use Rattle.bounds.specs.Answer.{checkOf, ended, Answered, Scratch};
+ghost use Rattle.bounds.specs.Answer.{checkOf, ended, Answered, Limits, Scratch};
 
 // How a check ends: the table is refused (1 to 6), a set is emptied (7), the buffer is too short for
 // the sizes (8), or the sizes stand at its front.
@@ -54,22 +54,22 @@ fn answer(limits: &[u32], lower: &[u32], upper: &mut [u32], sizes: &mut [u32]) -
     }
 }
 
-// The same of a valid table; `limits`, `lower` and `upper` are scratch.
+// The same of a valid table with its limits; `lower` and `upper` are scratch.
 fn check_in(
     table: &[u32],
-    limits: &mut [u32],
+    limits: &[u32],
     lower: &mut [u32],
     upper: &mut [u32],
     sizes: &mut [u32],
 ) -> CheckAnswer
     requires { ⌜ Valid (now table) ⌝ }
-    requires { ⌜ Scratch (now limits) (now lower) (now upper) ⌝ }
+    requires { ⌜ Limits (now table) (now limits) ⌝ }
+    requires { ⌜ Scratch (now lower) (now upper) ⌝ }
     ensures { λ r. ⌜ Answered (checkCall (now (table .entry)) (length (now (sizes .entry)))) r (now (sizes .entry)) (now (sizes .exit)) ⌝ }
 {
-    let m = limits::write_limits(table, limits);
     let n = limits::write_lower(table, lower);
     let k = limits::write_upper(table, upper);
-    answer(&limits[..m], &lower[..n], &mut upper[..k], sizes)
+    answer(limits, &lower[..n], &mut upper[..k], sizes)
 }
 
 // A call's result is a name in what is to be proved; an array written in place is all its numbers.
@@ -77,18 +77,45 @@ fn limit_space() -> [u32; 6752] {
     [0u32; 6752]
 }
 
+fn small_space() -> [u32; 512] {
+    [0u32; 512]
+}
+
 fn set_space() -> [u32; 208] {
     [0u32; 208]
 }
 
-fn check_valid(table: &[u32], sizes: &mut [u32]) -> CheckAnswer
+fn check_by(table: &[u32], limits: &[u32], sizes: &mut [u32]) -> CheckAnswer
+    requires { ⌜ Valid (now table) ⌝ }
+    requires { ⌜ Limits (now table) (now limits) ⌝ }
+    ensures { λ r. ⌜ Answered (checkCall (now (table .entry)) (length (now (sizes .entry)))) r (now (sizes .entry)) (now (sizes .exit)) ⌝ }
+{
+    let mut lower = set_space();
+    let mut upper = set_space();
+    check_in(table, limits, &mut lower, &mut upper, sizes)
+}
+
+// With room for the limits of every diagram.
+fn check_large(table: &[u32], sizes: &mut [u32]) -> CheckAnswer
     requires { ⌜ Valid (now table) ⌝ }
     ensures { λ r. ⌜ Answered (checkCall (now (table .entry)) (length (now (sizes .entry)))) r (now (sizes .entry)) (now (sizes .exit)) ⌝ }
 {
     let mut limits = limit_space();
-    let mut lower = set_space();
-    let mut upper = set_space();
-    check_in(table, &mut limits, &mut lower, &mut upper, sizes)
+    let m = limits::write_limits(table, &mut limits);
+    check_by(table, &limits[..m], sizes)
+}
+
+// With little room first: clearing much costs more than a small diagram's rounds.
+fn check_valid(table: &[u32], sizes: &mut [u32]) -> CheckAnswer
+    requires { ⌜ Valid (now table) ⌝ }
+    ensures { λ r. ⌜ Answered (checkCall (now (table .entry)) (length (now (sizes .entry)))) r (now (sizes .entry)) (now (sizes .exit)) ⌝ }
+{
+    let mut limits = small_space();
+    let m = limits::write_limits(table, &mut limits);
+    if m < 512 {
+        return check_by(table, &limits[..m], sizes);
+    }
+    check_large(table, sizes)
 }
 
 // Writes the sizes of the sets of a table's diagram, in set order.

@@ -200,12 +200,16 @@ fn places() -> [usize; 209] {
     [0usize; 209]
 }
 
-fn indices() -> [usize; 6752] {
-    [0usize; 6752]
+fn indices() -> [usize; 6753] {
+    [0usize; 6753]
 }
 
-// The same with scratch of its own, where the bounds are known to be taken.
-pub fn settle(limits: &[u32], lower: &[u32], upper: &mut [u32]) -> Outcome
+fn few_indices() -> [usize; 512] {
+    [0usize; 512]
+}
+
+// The same, with `entries` as room for the index.
+fn settle_in(limits: &[u32], lower: &[u32], upper: &mut [u32], entries: &mut [usize]) -> Outcome
     requires { ⌜ Bounds (now lower) (now upper) ⌝ }
     ensures { λ r. ⌜ r ≡ outcomeOf (run (decode (now (limits .entry))) (now (lower .entry)) (now (upper .entry))) ⌝ }
     ensures { λ _.
@@ -214,7 +218,6 @@ pub fn settle(limits: &[u32], lower: &[u32], upper: &mut [u32]) -> Outcome
 {
     let n = upper.len();
     let mut starts = places();
-    let mut entries = indices();
     let mut current = sizes();
     let mut next = sizes();
     let mut spare = sizes();
@@ -222,12 +225,49 @@ pub fn settle(limits: &[u32], lower: &[u32], upper: &mut [u32]) -> Outcome
         limits,
         lower,
         &mut starts,
-        &mut entries,
+        entries,
         upper,
         &mut current[..n],
         &mut next[..n],
         &mut spare[..n],
     )
+}
+
+fn settle_large(limits: &[u32], lower: &[u32], upper: &mut [u32]) -> Outcome
+    requires { ⌜ Bounds (now lower) (now upper) ⌝ }
+    ensures { λ r. ⌜ r ≡ outcomeOf (run (decode (now (limits .entry))) (now (lower .entry)) (now (upper .entry))) ⌝ }
+    ensures { λ _.
+        ⌜ now (upper .exit)
+        ≡ upperOf (run (decode (now (limits .entry))) (now (lower .entry)) (now (upper .entry))) (now (upper .entry)) ⌝ }
+{
+    let mut entries = indices();
+    settle_in(limits, lower, upper, &mut entries)
+}
+
+fn settle_small(limits: &[u32], lower: &[u32], upper: &mut [u32]) -> Outcome
+    requires { ⌜ Bounds (now lower) (now upper) ⌝ }
+    ensures { λ r. ⌜ r ≡ outcomeOf (run (decode (now (limits .entry))) (now (lower .entry)) (now (upper .entry))) ⌝ }
+    ensures { λ _.
+        ⌜ now (upper .exit)
+        ≡ upperOf (run (decode (now (limits .entry))) (now (lower .entry)) (now (upper .entry))) (now (upper .entry)) ⌝ }
+{
+    let mut entries = few_indices();
+    settle_in(limits, lower, upper, &mut entries)
+}
+
+// The same with scratch of its own, little of it for few limits, where the bounds are known to be
+// taken.
+pub fn settle(limits: &[u32], lower: &[u32], upper: &mut [u32]) -> Outcome
+    requires { ⌜ Bounds (now lower) (now upper) ⌝ }
+    ensures { λ r. ⌜ r ≡ outcomeOf (run (decode (now (limits .entry))) (now (lower .entry)) (now (upper .entry))) ⌝ }
+    ensures { λ _.
+        ⌜ now (upper .exit)
+        ≡ upperOf (run (decode (now (limits .entry))) (now (lower .entry)) (now (upper .entry))) (now (upper .entry)) ⌝ }
+{
+    if limits.len() < 512 {
+        return settle_small(limits, lower, upper);
+    }
+    settle_large(limits, lower, upper)
 }
 
 // Lowers the upper bounds to the fixpoint of the limits. Refused are upper bounds above 4096, more

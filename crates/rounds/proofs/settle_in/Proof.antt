@@ -1,21 +1,19 @@
--- `rounds::settle` meets its contract. The parts lent have the length of `upper`.
+-- `rounds::settle_in` meets its contract. The parts lent have the length of `upper`.
 -- Assumes nothing.
 use Rattle.rounds.proofs.Ends.{part-long, part-count, part-space}
 use borrow.Author.Needs.{needs}
-use Rattle.rounds.proofs.settle.Statement.{statement}
-use Rattle.rounds.proofs.settle.Tie as tie
+use Rattle.rounds.proofs.settle_in.Statement.{statement}
+use Rattle.rounds.proofs.settle_in.Tie as tie
 
-pub settle-spec : {M : Type 1} → statement M
-settle-spec =
+pub settle-in-spec : {M : Type 1} → statement M
+settle-in-spec =
     tie.close
     (tie.spec
     (λ c κs. search needs)
     (λ c κs. search needs)
     (λ c κs. search needs)
     (λ c κs. search needs)
-    (λ c κs. search needs)
-    (λ c. search needs)
-    (λ c. search needs)
+    (λ c. search (needs, part-count))
     (λ c. search needs)
     (λ c. search (needs, part-count))
     (λ c. search needs)
@@ -23,5 +21,6 @@ settle-spec =
     (λ c. search needs)
     (λ c. search (needs, part-count))
     (λ c κs. (search needs, (search (needs, part-space), search (needs, part-long))))
+    (λ c. search needs)
     (λ c. search needs)
     (λ c. search needs))

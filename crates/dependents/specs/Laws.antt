@@ -1,3 +1,4 @@
 -- The laws of limits that depend on a set: the others hold after a round.
 pub mod Values
 pub mod Changed
+pub mod Room

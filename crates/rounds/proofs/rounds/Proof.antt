@@ -15,7 +15,7 @@ rounds-from-requires c κs =
     let found = told .before .before in
     let start = found .before .before .before .before .before .before .before .before .before in (
       start-none _ _ _ _ _ _ _ (start .pre .0) (start .pre .1) (found .first-below .ensures) (told .enum-told .given .1)
-          (built .index-sets .ensures) (omega arith) (made .round .ensures),
+          (built .index-sets .ensures .1) (omega arith) (made .round .ensures),
       (omega arith, omega arith),
     )
 

@@ -36,7 +36,7 @@ fn block_size(cells: &[u32], at: usize, width: usize) -> usize
 }
 
 // The block at `at` is there whole.
-pub fn block_fits(cells: &[u32], at: usize, width: usize) -> bool
+fn block_fits(cells: &[u32], at: usize, width: usize) -> bool
     requires { ⌜ width ≤ 999999 ⌝ }
     ensures { λ r. ⌜ r ≡ blockFits width (drop at (now (cells .entry))) ⌝ }
 {

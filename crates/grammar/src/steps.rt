@@ -37,7 +37,7 @@ pub fn after_verdict(verdict: Verdict, next: Place) -> Step
 }
 
 // A `pred` line after `read` numbers.
-pub fn pred_line(counts: Counts, read: usize, line: &[u32]) -> Step
+fn pred_line(counts: Counts, read: usize, line: &[u32]) -> Step
     requires { ⌜ (counts .roles ≤ 96) × (counts .groups ≤ 48) ⌝ }
     requires { ⌜ read ≤ 708 ⌝ }
     requires { ⌜ length (now line) ≡ 4 ⌝ }
@@ -50,7 +50,7 @@ pub fn pred_line(counts: Counts, read: usize, line: &[u32]) -> Step
 }
 
 // What the line with these numbers leads to, after lines with the numbers `before`.
-pub fn check_line(place: Place, before: &[u32], line: &[u32]) -> Step
+fn check_line(place: Place, before: &[u32], line: &[u32]) -> Step
     requires { ⌜ Room place (length (now before)) ⌝ }
     requires { ⌜ isGoing place ≡ true ⌝ }
     requires { ⌜ length (now line) ≡ fieldsAt place ⌝ }

@@ -36,7 +36,7 @@ pub fn count_verdict(low: usize, line: &[u32], high: usize) -> Verdict
     )
 }
 
-pub fn type_in_ranges(line: &[u32]) -> bool
+fn type_in_ranges(line: &[u32]) -> bool
     requires { ⌜ length (now line) ≡ 6 ⌝ }
     ensures { λ r. ⌜ r ≡ inRanges (ranges typeLine) (now (line .entry)) ⌝ }
 {
@@ -67,7 +67,7 @@ pub fn type_verdict(own: usize, line: &[u32]) -> Verdict
     unless(Fault::OutOfRange, type_in_ranges(line), parent)
 }
 
-pub fn pred_in_ranges(line: &[u32]) -> bool
+fn pred_in_ranges(line: &[u32]) -> bool
     requires { ⌜ length (now line) ≡ 4 ⌝ }
     ensures { λ r. ⌜ r ≡ inRanges (ranges predLine) (now (line .entry)) ⌝ }
 {

@@ -1,6 +1,6 @@
 -- Single numbers: remainders and quotients, also by 0, the greatest common divisor, products that fit, and reading past the end.
 use Prim.Native.Nat.{ℕ, zero, suc, _+_, _*_, _/_, _%_, _-_, min, _≤_, _<_}
-use native.Mathlib.Nat.{mod-zero, div-zero, mod-le, mod-lt, div-le-self, mul-le-mul, zero-lt-suc, lt-suc-self}
+use native.Mathlib.Nat.{mod-zero, div-zero, mod-eq-of-lt, div-eq-of-lt, mod-le, mod-lt, div-le-self, mul-le-mul, zero-lt-suc, lt-suc-self}
 use native.Mathlib.Omega.{arith}
 use mathlib.Core.Path.{_≡_, refl, sym, ap, ap₂, _∙_}
 use mathlib.Core.List.{List, [], _∷_}
@@ -20,6 +20,12 @@ remainder-zero x e = rw e (sym (mod-zero x))
 
 pub remainder-small : (x k : ℕ) → x % k ≤ x
 remainder-small x k = mod-le x k
+
+pub quotient-below : (x k : ℕ) → x < k → 0 ≡ x / k
+quotient-below x k h = sym (div-eq-of-lt h)
+
+pub remainder-below : (x k : ℕ) → x < k → x ≡ x % k
+remainder-below x k h = sym (mod-eq-of-lt h)
 
 -- ---- Euclid's algorithm
 

@@ -1,7 +1,7 @@
 /* Legshorgan for programs in C: the calls of crates/capi.
  *
  * Every text, table and list of cells is input, and every call ends. It allocates nothing and has no global state; of the stack it
- * takes up to about 140,000 bytes (measured). A refused call writes only its answer. An accepted one writes its result at the front
+ * takes up to about 93,000 bytes (measured). A refused call writes only its answer. An accepted one writes its result at the front
  * of the caller's array, and nothing behind it. The contracts in crates/capi/src/lib.rt say exactly what stands in the answer and in
  * that array afterwards.
  *

@@ -1,12 +1,10 @@
 -- The order of the lines: the place with so many lines left, and where the line at each place leads.
-use Prim.Native.Nat.{ℕ, zero, suc, _+_, _-_, _≤_}
+use Prim.Native.Nat.{ℕ, zero, suc, _+_, _-_, _≤_, _<_}
 use mathlib.Core.Path.{_≡_, refl, ap, _∙_, subst}
 use mathlib.Core.Bool.{Bool, true, false}
 use mathlib.Core.Option.{Option}
 use mathlib.Core.List.{List, [], _∷_}
 use native.Mathlib.Omega.{arith}
-use mir.Syntax.{w64}
-use mir.Val.{Fits}
 use lib.ListN.{length, getD}
 use Rattle.orm.specs.Diagram.{typeLine, predLine, roleLine, freqLine, endLine}
 use Rattle.orm.specs.Form.{_to_, ranges, inRanges, _unless_, firstOf, countOf, typeOf, roleOf, groupOf, headOf, typeTests, predTests, roleTests, named, groupTests, endTests}
@@ -117,8 +115,8 @@ module _ {p : Place} {read : ℕ} (w : Room p read) where
   known : (q : Place) → p ≡ q → Known q read
   known q e = subst (λ (q : Place). Known q read) e (w .known)
 
-  pub type-fits : {t left : ℕ} (own : ℕ) → p ≡ AtType t own left → Fits w64 (own + 1)
-  type-fits own e = let k = known _ e in record { fits = omega arith }
+  pub type-own : {t left : ℕ} (own : ℕ) → p ≡ AtType t own left → own ≤ 32
+  type-own own e = let k = known _ e in omega arith
 
   pub pred-roles : (c : Counts) → p ≡ AtPred c → c .roles ≤ 96
   pred-roles c e = known (AtPred c) e .roles
@@ -129,62 +127,100 @@ module _ {p : Place} {read : ℕ} (w : Room p read) where
   pub pred-read : (c : Counts) → p ≡ AtPred c → read ≤ 708
   pred-read c e = let k = known (AtPred c) e in omega (arith, k .numbers, k .roles, k .groups)
 
-  pub freq-fits : {b : Block} {left : ℕ} (own : ℕ) → p ≡ AtFreq b own left → Fits w64 (own + 1)
-  freq-fits {b} {left} own e = let k = known (AtFreq b own left) e in record { fits = omega (arith, k .2) }
+  pub freq-own : {b : Block} {left : ℕ} (own : ℕ) → p ≡ AtFreq b own left → own ≤ 6
+  freq-own {b} {left} own e = let k = known (AtFreq b own left) e in omega (arith, k .2)
 
-  pub freq-first : {own left : ℕ} (b : Block) → p ≡ AtFreq b own left → b .first ≤ 4294967296
-  freq-first {own} {left} b e = let k = known (AtFreq b own left) e in omega (arith, k .1 .first)
+  pub freq-first : {own left : ℕ} (b : Block) → p ≡ AtFreq b own left → b .first ≤ 708
+  freq-first {own} {left} b e = known (AtFreq b own left) e .1 .first
 
-  pub freq-roles : {own left : ℕ} (b : Block) → p ≡ AtFreq b own left → b .roles ≤ 4294967296
-  freq-roles {own} {left} b e = let k = known (AtFreq b own left) e in omega (arith, k .1 .roles)
+  pub freq-roles : {own left : ℕ} (b : Block) → p ≡ AtFreq b own left → b .roles ≤ 6
+  freq-roles {own} {left} b e = known (AtFreq b own left) e .1 .roles
 
--- what it leads to
-module _ {p : Place} (s v : List ℕ) (r : Step) {o : Option ℕ} where
-  leads : (q : Place) {next : Place} → p ≡ q → stepOf r ≡ stepped o next
-      → o ≡ faultIn (kindAt q) v (testsAt q s v) → next ≡ nextAt q s v → stepOf r ≡ stepAt p s v
+pub first-small : (b : Block) → (b .first ≤ 708) × (b .roles ≤ 6) → b .first ≤ 4294967296
+first-small b h = omega (arith, h .0)
+
+pub roles-small : (b : Block) → (b .first ≤ 708) × (b .roles ≤ 6) → b .roles ≤ 4294967296
+roles-small b h = omega (arith, h .1)
+
+-- what a line of each kind leads to
+module _ (s v : List ℕ) (r : Step) {o : Option ℕ} where
+  leads : (p : Place) {next : Place} → stepOf r ≡ stepped o next
+      → o ≡ faultIn (kindAt p) v (testsAt p s v) → next ≡ nextAt p s v → stepOf r ≡ stepAt p s v
   unfolding stepAt
-  leads q e w f g = rw (e, ← f, ← g) w
+  leads p w f g = rw (← f, ← g) w
 
-  pub diagram-leads : p ≡ AtDiagram → stepOf r ≡ stepped o AtTypes → o ≡ firstOf (2 unless inRanges (1 to 1 ∷ []) v ∷ [])
-      → stepOf r ≡ stepAt p s v
+  pub diagram-leads : stepOf r ≡ stepped o AtTypes → o ≡ firstOf (2 unless inRanges (1 to 1 ∷ []) v ∷ [])
+      → stepOf r ≡ stepAt AtDiagram s v
   unfolding ranges
-  diagram-leads e w f = leads AtDiagram e w f refl
+  diagram-leads w f = leads AtDiagram w f refl
 
-  pub types-leads : {next : Place} {x : ℕ} → p ≡ AtTypes → stepOf r ≡ stepped o next
-      → o ≡ firstOf (2 unless inRanges (1 to 32 ∷ []) v ∷ []) → next ≡ typesFrom x 1 x → x ≡ getD v 0 0 → stepOf r ≡ stepAt p s v
+  pub types-leads : {next : Place} {x : ℕ} → stepOf r ≡ stepped o next
+      → o ≡ firstOf (2 unless inRanges (1 to 32 ∷ []) v ∷ []) → next ≡ typesFrom x 1 x → x ≡ getD v 0 0
+      → stepOf r ≡ stepAt AtTypes s v
   unfolding ranges
-  types-leads e w f g q = leads AtTypes e w f (rw q at g)
+  types-leads w f g q = leads AtTypes w f (rw q at g)
 
-  pub type-leads : {next : Place} (t own left : ℕ) → p ≡ AtType t own left → stepOf r ≡ stepped o next
+  pub type-leads : {next : Place} (t own left : ℕ) → stepOf r ≡ stepped o next
       → o ≡ faultIn typeLine v (typeTests own (typeOf v)) → next ≡ typesFrom t (own + 1) left
-      → stepOf r ≡ stepAt p s v
-  type-leads t own left e w f g = leads (AtType t own left) e w f g
+      → stepOf r ≡ stepAt (AtType t own left) s v
+  type-leads t own left w f g = leads (AtType t own left) w f g
 
-  pub preds-leads : {next : Place} (t : ℕ) {x : ℕ} {c : Counts} → p ≡ AtPreds t → stepOf r ≡ stepped o next
+  pub preds-leads : {next : Place} (t : ℕ) {x : ℕ} {c : Counts} → stepOf r ≡ stepped o next
       → o ≡ firstOf (2 unless inRanges (1 to 32 ∷ []) v ∷ []) → next ≡ predsFrom c → c ≡ countsOf t x → x ≡ getD v 0 0
-      → stepOf r ≡ stepAt p s v
+      → stepOf r ≡ stepAt (AtPreds t) s v
   unfolding ranges
-  preds-leads t e w f g h q = leads (AtPreds t) e w f (rw (h, q) at g)
+  preds-leads t w f g h q = leads (AtPreds t) w f (rw (h, q) at g)
 
-  pub role-leads : {next : Place} (b : Block) (left : ℕ) → p ≡ AtRole b left → stepOf r ≡ stepped o next
+  pub role-leads : {next : Place} (b : Block) (left : ℕ) → stepOf r ≡ stepped o next
       → o ≡ faultIn roleLine v (roleTests (b .counts .types) (b .groups) (roleOf v)) → next ≡ rolesFrom b left
-      → stepOf r ≡ stepAt p s v
-  role-leads b left e w f g = leads (AtRole b left) e w f g
+      → stepOf r ≡ stepAt (AtRole b left) s v
+  role-leads b left w f g = leads (AtRole b left) w f g
 
-  pub freq-leads : {next : Place} {used : Bool} (b : Block) (own left : ℕ) → p ≡ AtFreq b own left → stepOf r ≡ stepped o next
+  pub freq-leads : {next : Place} {used : Bool} (b : Block) (own left : ℕ) → stepOf r ≡ stepped o next
       → o ≡ faultIn freqLine v (freqTests used (groupOf v))
-      → used ≡ named own (rolesAt s (b .first) (b .roles)) → next ≡ groupsFrom b (own + 1) left → stepOf r ≡ stepAt p s v
+      → used ≡ named own (rolesAt s (b .first) (b .roles)) → next ≡ groupsFrom b (own + 1) left
+      → stepOf r ≡ stepAt (AtFreq b own left) s v
   unfolding groupTests
-  freq-leads b own left e w f u g = leads (AtFreq b own left) e w (rw u at f) g
+  freq-leads b own left w f u g = leads (AtFreq b own left) w (rw u at f) g
 
-  pub end-leads : (c : Counts) → p ≡ AtEnd c → stepOf r ≡ stepped o (Over c)
-      → o ≡ faultIn endLine v (endTests (c .roles) (countOf v)) → stepOf r ≡ stepAt p s v
-  end-leads c e w f = leads (AtEnd c) e w f refl
+  pub end-leads : (c : Counts) → stepOf r ≡ stepped o (Over c)
+      → o ≡ faultIn endLine v (endTests (c .roles) (countOf v)) → stepOf r ≡ stepAt (AtEnd c) s v
+  end-leads c w f = leads (AtEnd c) w f refl
 
-pub pred-leads : {p : Place} (s v : List ℕ) (r : Step) (c : Counts) → p ≡ AtPred c → stepOf r ≡ predStep c (length s) v
-    → stepOf r ≡ stepAt p s v
-unfolding stepAt
-pred-leads s v r c e w = rw e w
+-- the same of a place that is known to be the one before such a line
+module _ {p : Place} (s v : List ℕ) (r : Step) where
+  pub diagram-arm : p ≡ AtDiagram → stepOf r ≡ stepAt AtDiagram [] v → stepOf r ≡ stepAt p s v
+  unfolding stepAt
+  diagram-arm e w = rw e w
+
+  pub types-arm : p ≡ AtTypes → stepOf r ≡ stepAt AtTypes [] v → stepOf r ≡ stepAt p s v
+  unfolding stepAt
+  types-arm e w = rw e w
+
+  pub type-arm : (t own left : ℕ) → p ≡ AtType t own left → stepOf r ≡ stepAt (AtType t own left) [] v → stepOf r ≡ stepAt p s v
+  unfolding stepAt
+  type-arm t own left e w = rw e w
+
+  pub preds-arm : (t : ℕ) → p ≡ AtPreds t → stepOf r ≡ stepAt (AtPreds t) [] v → stepOf r ≡ stepAt p s v
+  unfolding stepAt
+  preds-arm t e w = rw e w
+
+  pub pred-arm : (c : Counts) → p ≡ AtPred c → stepOf r ≡ predStep c (length s) v → stepOf r ≡ stepAt p s v
+  unfolding stepAt
+  pred-arm c e w = rw e w
+
+  pub role-arm : (b : Block) (left : ℕ) → p ≡ AtRole b left → stepOf r ≡ stepAt (AtRole b left) [] v → stepOf r ≡ stepAt p s v
+  unfolding stepAt
+  role-arm b left e w = rw e w
+
+  pub freq-arm : (b : Block) (own left : ℕ) → p ≡ AtFreq b own left → stepOf r ≡ stepAt (AtFreq b own left) s v
+      → stepOf r ≡ stepAt p s v
+  unfolding stepAt
+  freq-arm b own left e w = rw e w
+
+  pub end-arm : (c : Counts) → p ≡ AtEnd c → stepOf r ≡ stepAt (AtEnd c) [] v → stepOf r ≡ stepAt p s v
+  unfolding stepAt
+  end-arm c e w = rw e w
 
 pub over-never : {p : Place} (s v : List ℕ) (c : Counts) → p ≡ Over c → isGoing p ≡ true → going (Over c) ≡ stepAt p s v
 over-never s v c e g = let z : false ≡ true = rw e at g in cc

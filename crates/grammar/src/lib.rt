@@ -2,6 +2,7 @@
 //
 // A `Place` says which line comes next and what is known so far. The numbers of the lines read so
 // far stand in a table, whether they came from a text or from a table.
+mod kinds;
 pub mod places;
 pub mod steps;
 pub mod tests;

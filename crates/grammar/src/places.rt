@@ -2,10 +2,11 @@
 use crate::Block;
 use crate::Counts;
 use crate::Place;
-use crate::tests::item;
+use crate::tests::number;
 use lexer::Kind;
 ghost use mathlib.Core.Path.{_≡_};
 ghost use Prim.Native.Nat.{_≤_};
+ghost use lib.ListN.{length};
 ghost use Rattle.lexer.specs.Cuts.{kindOf, fieldsOf};
 ghost use Rattle.grammar.specs.Place.{typesFrom, predsFrom, groupsFrom, rolesFrom, countsOf, blockOf, kindAt, fieldsAt, isGoing, countsAt};
 
@@ -166,10 +167,11 @@ pub fn counts_of(types: usize, preds: usize) -> Counts
 // The predicate of a `pred` line, whose roles' numbers start at `first`.
 pub fn block_of(counts: Counts, first: usize, line: &[u32]) -> Block
     requires { ⌜ (counts .roles ≤ 96) × (counts .groups ≤ 48) ⌝ }
+    requires { ⌜ length (now line) ≡ 4 ⌝ }
     ensures { λ r. ⌜ r ≡ blockOf counts first (now (line .entry)) ⌝ }
 {
-    let roles = item(line, 2);
-    let groups = item(line, 3);
+    let roles = number(line, 2);
+    let groups = number(line, 3);
     Block {
         counts: Counts {
             types: counts.types,

@@ -1,9 +1,9 @@
-// Single tests of numbers. They are total: an index behind the end reads 0.
+// Single numbers and their tests.
 ghost use mathlib.Core.Path.{_≡_};
 ghost use mathlib.Core.Bool.{_&&_};
 ghost use Prim.Native.Nat.{_≤_, _<_};
 ghost use lib.Dec.{leb, ltb, eqb};
-ghost use lib.ListN.{getD};
+ghost use lib.ListN.{length, getD};
 ghost use Rattle.orm.specs.Form.{_to_, inRange, named};
 ghost use Rattle.reading.specs.Walk.{rolesAt};
 ghost use Rattle.grammar.specs.Step.{inOrder};
@@ -18,6 +18,15 @@ pub fn item(numbers: &[u32], i: usize) -> usize
     } else {
         0
     }
+}
+
+// The number at `i` of a line, which has it.
+pub fn number(line: &[u32], i: usize) -> usize
+    requires { ⌜ i < length (now line) ⌝ }
+    ensures { λ r. ⌜ r ≡ getD (now (line .entry)) i 0 ⌝ }
+    ensures { λ r. ⌜ r < 4294967296 ⌝ }
+{
+    index(line[i])
 }
 
 // A cast; callers learn the bound too.

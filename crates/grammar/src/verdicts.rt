@@ -6,7 +6,7 @@ use crate::tests::below;
 use crate::tests::both;
 use crate::tests::equal;
 use crate::tests::in_range;
-use crate::tests::item;
+use crate::tests::number;
 use crate::tests::values_in_order;
 ghost use mathlib.Core.Path.{_≡_};
 ghost use mathlib.Core.List.{[], _∷_};
@@ -31,7 +31,7 @@ pub fn count_verdict(low: usize, line: &[u32], high: usize) -> Verdict
 {
     unless(
         Fault::OutOfRange,
-        in_range(low, item(line, 0), high),
+        in_range(low, number(line, 0), high),
         Verdict::Fine,
     )
 }
@@ -41,14 +41,14 @@ fn type_in_ranges(line: &[u32]) -> bool
     ensures { λ r. ⌜ r ≡ inRanges (ranges typeLine) (now (line .entry)) ⌝ }
 {
     let last = both(
-        in_range(0, item(line, 4), 32),
-        in_range(0, item(line, 5), 1),
+        in_range(0, number(line, 4), 32),
+        in_range(0, number(line, 5), 1),
     );
-    let values = both(in_range(0, item(line, 3), 999999), last);
-    let rest = both(in_range(0, item(line, 2), 999999), values);
+    let values = both(in_range(0, number(line, 3), 999999), last);
+    let rest = both(in_range(0, number(line, 2), 999999), values);
     both(
-        in_range(1, item(line, 0), 4096),
-        both(in_range(1, item(line, 1), 4096), rest),
+        in_range(1, number(line, 0), 4096),
+        both(in_range(1, number(line, 1), 4096), rest),
     )
 }
 
@@ -56,14 +56,14 @@ pub fn type_verdict(own: usize, line: &[u32]) -> Verdict
     requires { ⌜ length (now line) ≡ 6 ⌝ }
     ensures { λ r. ⌜ faultOf r ≡ faultIn typeLine (now (line .entry)) (typeTests own (typeOf (now (line .entry)))) ⌝ }
 {
-    let ordered = values_in_order(item(line, 2), item(line, 3), item(line, 4));
-    let sized = at_most(item(line, 0), item(line, 1));
+    let ordered = values_in_order(number(line, 2), number(line, 3), number(line, 4));
+    let sized = at_most(number(line, 0), number(line, 1));
     let sizes = unless(
         Fault::Disordered,
         sized,
         unless(Fault::Disordered, ordered, Verdict::Fine),
     );
-    let parent = unless(Fault::Unknown, below(item(line, 4), own), sizes);
+    let parent = unless(Fault::Unknown, below(number(line, 4), own), sizes);
     unless(Fault::OutOfRange, type_in_ranges(line), parent)
 }
 
@@ -71,10 +71,13 @@ fn pred_in_ranges(line: &[u32]) -> bool
     requires { ⌜ length (now line) ≡ 4 ⌝ }
     ensures { λ r. ⌜ r ≡ inRanges (ranges predLine) (now (line .entry)) ⌝ }
 {
-    let counts = both(in_range(1, item(line, 2), 6), in_range(0, item(line, 3), 6));
+    let counts = both(
+        in_range(1, number(line, 2), 6),
+        in_range(0, number(line, 3), 6),
+    );
     both(
-        in_range(1, item(line, 0), 4096),
-        both(in_range(1, item(line, 1), 4096), counts),
+        in_range(1, number(line, 0), 4096),
+        both(in_range(1, number(line, 1), 4096), counts),
     )
 }
 
@@ -83,14 +86,14 @@ pub fn pred_verdict(roles: usize, groups: usize, line: &[u32]) -> Verdict
     requires { ⌜ (roles ≤ 96) × (groups ≤ 48) ⌝ }
     ensures { λ r. ⌜ faultOf r ≡ faultIn predLine (now (line .entry)) (predTests roles groups (headOf (now (line .entry)))) ⌝ }
 {
-    let sized = at_most(item(line, 0), item(line, 1));
+    let sized = at_most(number(line, 0), number(line, 1));
     let sizes = unless(Fault::Disordered, sized, Verdict::Fine);
     let few = unless(
         Fault::OutOfRange,
-        at_most(groups + item(line, 3), 48),
+        at_most(groups + number(line, 3), 48),
         sizes,
     );
-    let totals = unless(Fault::OutOfRange, at_most(roles + item(line, 2), 96), few);
+    let totals = unless(Fault::OutOfRange, at_most(roles + number(line, 2), 96), few);
     unless(Fault::OutOfRange, pred_in_ranges(line), totals)
 }
 
@@ -99,18 +102,21 @@ pub fn role_verdict(types: usize, groups: usize, line: &[u32]) -> Verdict
     ensures { λ r. ⌜ faultOf r ≡ faultIn roleLine (now (line .entry)) (roleTests types groups (roleOf (now (line .entry)))) ⌝ }
 {
     let ranged = both(
-        in_range(1, item(line, 0), 32),
-        both(in_range(0, item(line, 1), 1), in_range(0, item(line, 2), 6)),
+        in_range(1, number(line, 0), 32),
+        both(
+            in_range(0, number(line, 1), 1),
+            in_range(0, number(line, 2), 6),
+        ),
     );
     let group = unless(
         Fault::Unknown,
-        at_most(item(line, 2), groups),
+        at_most(number(line, 2), groups),
         Verdict::Fine,
     );
     unless(
         Fault::OutOfRange,
         ranged,
-        unless(Fault::Unknown, at_most(item(line, 0), types), group),
+        unless(Fault::Unknown, at_most(number(line, 0), types), group),
     )
 }
 
@@ -119,10 +125,10 @@ pub fn freq_verdict(used: bool, line: &[u32]) -> Verdict
     ensures { λ r. ⌜ faultOf r ≡ faultIn freqLine (now (line .entry)) (freqTests used (groupOf (now (line .entry)))) ⌝ }
 {
     let ranged = both(
-        in_range(1, item(line, 0), 4096),
-        in_range(1, item(line, 1), 4096),
+        in_range(1, number(line, 0), 4096),
+        in_range(1, number(line, 1), 4096),
     );
-    let sized = at_most(item(line, 0), item(line, 1));
+    let sized = at_most(number(line, 0), number(line, 1));
     let named = unless(Fault::Unnamed, used, Verdict::Fine);
     unless(
         Fault::OutOfRange,
@@ -138,7 +144,7 @@ pub fn end_verdict(roles: usize, line: &[u32]) -> Verdict
 {
     unless(
         Fault::Miscounted,
-        equal(item(line, 0), roles),
+        equal(number(line, 0), roles),
         Verdict::Fine,
     )
 }

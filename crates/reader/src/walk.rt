@@ -9,6 +9,7 @@ use grammar::places::counts_at;
 use grammar::places::is_going;
 use grammar::places::kind_at;
 use grammar::steps::check_at;
+use grammar::steps::check_cut;
 use lexer::Found;
 use lexer::lines::fields_of;
 use lexer::lines::write_line;
@@ -45,7 +46,7 @@ pub fn text_step(place: Place, text: &[u8], at: usize, table: &mut [u32], end: u
         return Line::Halted(Fault::Malformed);
     };
     let last = end + fields_of(kind);
-    reach(check_at(place, table, end, last), next, last)
+    reach(check_cut(place, table, end, last), next, last)
 }
 
 // The line of the table at `at`.

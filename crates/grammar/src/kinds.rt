@@ -1,0 +1,112 @@
+// Where a line of each kind leads, or its first fault. Only a `freq` line looks at the numbers before it, for the roles that name
+// its group; of the others the contract speaks of none.
+use crate::Block;
+use crate::Counts;
+use crate::Place;
+use crate::Step;
+use crate::Verdict;
+use crate::places::block_of;
+use crate::places::counts_of;
+use crate::places::groups_from;
+use crate::places::preds_from;
+use crate::places::roles_from;
+use crate::places::types_from;
+use crate::tests::is_named;
+use crate::tests::number;
+use crate::verdicts::count_verdict;
+use crate::verdicts::end_verdict;
+use crate::verdicts::freq_verdict;
+use crate::verdicts::pred_verdict;
+use crate::verdicts::role_verdict;
+use crate::verdicts::type_verdict;
+ghost use mathlib.Core.Path.{_≡_};
+ghost use mathlib.Core.List.{[]};
+ghost use Prim.Native.Nat.{_≤_};
+ghost use lib.ListN.{length};
+ghost use Rattle.grammar.specs.declared.Place.the-variants.{AtDiagram, AtTypes, AtType, AtPreds, AtRole, AtFreq, AtEnd};
+ghost use Rattle.grammar.specs.Fault.{faultOf};
+ghost use Rattle.grammar.specs.Step.{stepOf, stepped, stepAt, predStep};
+
+// The fault, or the next place.
+pub fn after_verdict(verdict: Verdict, next: Place) -> Step
+    ensures { λ r. ⌜ stepOf r ≡ stepped (faultOf verdict) next ⌝ }
+{
+    match verdict {
+        Verdict::Fine => Step::Next(next),
+        Verdict::Faulty(fault) => Step::Refused(fault),
+    }
+}
+
+pub fn diagram_line(line: &[u32]) -> Step
+    requires { ⌜ length (now line) ≡ 1 ⌝ }
+    ensures { λ r. ⌜ stepOf r ≡ stepAt AtDiagram [] (now (line .entry)) ⌝ }
+{
+    after_verdict(count_verdict(1, line, 1), Place::AtTypes)
+}
+
+pub fn types_line(line: &[u32]) -> Step
+    requires { ⌜ length (now line) ≡ 1 ⌝ }
+    ensures { λ r. ⌜ stepOf r ≡ stepAt AtTypes [] (now (line .entry)) ⌝ }
+{
+    let count = number(line, 0);
+    after_verdict(count_verdict(1, line, 32), types_from(count, 1, count))
+}
+
+// The type with the number `own`.
+pub fn type_line(types: usize, own: usize, left: usize, line: &[u32]) -> Step
+    requires { ⌜ own ≤ 32 ⌝ }
+    requires { ⌜ length (now line) ≡ 6 ⌝ }
+    ensures { λ r. ⌜ stepOf r ≡ stepAt (AtType types own left) [] (now (line .entry)) ⌝ }
+{
+    after_verdict(type_verdict(own, line), types_from(types, own + 1, left))
+}
+
+pub fn preds_line(types: usize, line: &[u32]) -> Step
+    requires { ⌜ length (now line) ≡ 1 ⌝ }
+    ensures { λ r. ⌜ stepOf r ≡ stepAt (AtPreds types) [] (now (line .entry)) ⌝ }
+{
+    let counts = counts_of(types, number(line, 0));
+    after_verdict(count_verdict(1, line, 32), preds_from(counts))
+}
+
+// A `pred` line after `read` numbers.
+pub fn pred_line(counts: Counts, read: usize, line: &[u32]) -> Step
+    requires { ⌜ (counts .roles ≤ 96) × (counts .groups ≤ 48) ⌝ }
+    requires { ⌜ read ≤ 708 ⌝ }
+    requires { ⌜ length (now line) ≡ 4 ⌝ }
+    ensures { λ r. ⌜ stepOf r ≡ predStep counts read (now (line .entry)) ⌝ }
+{
+    let verdict = pred_verdict(counts.roles, counts.groups, line);
+    let first = read + line.len();
+    let block = block_of(counts, first, line);
+    after_verdict(verdict, roles_from(block, block.roles))
+}
+
+pub fn role_line(block: Block, left: usize, line: &[u32]) -> Step
+    requires { ⌜ length (now line) ≡ 3 ⌝ }
+    ensures { λ r. ⌜ stepOf r ≡ stepAt (AtRole block left) [] (now (line .entry)) ⌝ }
+{
+    let counts = block.counts;
+    after_verdict(
+        role_verdict(counts.types, block.groups, line),
+        roles_from(block, left),
+    )
+}
+
+// The group with the number `own`, after lines with the numbers `before`.
+pub fn freq_line(block: Block, own: usize, left: usize, before: &[u32], line: &[u32]) -> Step
+    requires { ⌜ (block .first ≤ 708) × (block .roles ≤ 6) ⌝ }
+    requires { ⌜ own ≤ 6 ⌝ }
+    requires { ⌜ length (now line) ≡ 2 ⌝ }
+    ensures { λ r. ⌜ stepOf r ≡ stepAt (AtFreq block own left) (now (before .entry)) (now (line .entry)) ⌝ }
+{
+    let used = is_named(own, before, block.first, block.roles);
+    after_verdict(freq_verdict(used, line), groups_from(block, own + 1, left))
+}
+
+pub fn end_line(counts: Counts, line: &[u32]) -> Step
+    requires { ⌜ length (now line) ≡ 1 ⌝ }
+    ensures { λ r. ⌜ stepOf r ≡ stepAt (AtEnd counts) [] (now (line .entry)) ⌝ }
+{
+    after_verdict(end_verdict(counts.roles, line), Place::Over { counts })
+}

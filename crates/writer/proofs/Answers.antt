@@ -11,7 +11,7 @@ use Rattle.orm.specs.Calls.{diagramIn, writeCall}
 use Rattle.reading.specs.Laws.{fits, does-not-fit}
 use Rattle.reading.specs.TextLength.{text-length}
 use Rattle.buffer.specs.Written.{Wrote}
-use Rattle.buffer.specs.Laws.{wrote-front, wrote-within, wrote-whole}
+use Rattle.buffer.specs.Laws.{wrote-end, wrote-front, wrote-within, wrote-whole}
 use Rattle.table.specs.Positions.{diagramOf, Walkable}
 use Rattle.table.specs.Valid.{Valid}
 use Rattle.table.specs.Laws.Valid.{accepted-valid, valid-walkable}
@@ -101,3 +101,19 @@ module _ (t : List ℕ) {form : FormAnswer} (e : formOf form ≡ totalled (diagr
       pub whole-written : (text : List ℕ) {text′ : List ℕ} → text′ ≡ bufferAfter (fitted (length text) (take n s′)) text
           → text′ ≡ bufferAfter (writeCall t (length text)) text
       whole-written text h = h ∙ ap (λ (o : Outcome (List ℕ)). bufferAfter o text) (call-fitted (length text))
+
+    -- what was written straight into the text
+    module _ {text text′ : List ℕ} {n : ℕ} (long : 3603 ≤ length text) (w : Wrote text 0 (render (diagramOf t)) text′ n) where
+      space : length (render (diagramOf t)) ≤ length text
+      space = omega (arith, text-length (diagramOf t) (valid .formed))
+
+      call-accepted : writeCall t (length text) ≡ accepted (render (diagramOf t))
+      unfolding writeCall
+      call-accepted = rw (valid .reads) (fits (length text) (render (diagramOf t)) space)
+
+      pub straight-outcome : accepted n ≡ lengthOf (writeCall t (length text))
+      straight-outcome = ap accepted (wrote-end w space) ∙ sym (ap lengthOf call-accepted)
+
+      pub straight-written : text′ ≡ bufferAfter (writeCall t (length text)) text
+      unfolding bufferAfter
+      straight-written = wrote-whole w space ∙ sym (ap (λ (o : Outcome (List ℕ)). bufferAfter o text) call-accepted)

@@ -1,8 +1,11 @@
 // Writing a diagram: from its table into its text.
 //
-// The text is put together in a scratch buffer and copied at the end, so that a refused call, and
-// one whose text is too short, write nothing. The functions below write from the index `at` on and
-// answer the index behind what they wrote.
+// A buffer with room for every text is written straight. Else the text is put together in a scratch
+// buffer and copied at the end, so that a call whose text is too short writes nothing. The functions
+// below write from the index `at` on and answer the index behind what they wrote.
+mod digits;
+mod lines;
+
 ghost use mathlib.Core.Path.{_≡_};
 ghost use Prim.Native.Nat.{_≤_};
 ghost use lib.ListN.{length, drop};
@@ -31,9 +34,9 @@ fn push_pred(t: &[u32], p: usize, out: &mut [u8], at: usize) -> usize
     let roles = table::index(table::field(t, p, 2));
     let groups = table::index(table::field(t, p, 3));
     let first_group = p + (4 + 3 * roles);
-    let a = numerals::push_line(out, at, b"pred=", t, p, 4);
-    let b = numerals::push_lines(out, a, b"role=", t, p + 4, 3, roles);
-    numerals::push_lines(out, b, b"freq=", t, first_group, 2, groups)
+    let a = lines::line_of_four(out, at, b"pred=", t, p);
+    let b = lines::lines_of_three(out, a, b"role=", t, p + 4, roles);
+    lines::lines_of_two(out, b, b"freq=", t, first_group, groups)
 }
 
 fn push_each_pred(t: &[u32], out: &mut [u8], at: usize) -> usize
@@ -58,7 +61,7 @@ fn push_types(t: &[u32], out: &mut [u8], at: usize) -> usize
 {
     let types = table::index(table::type_count(t));
     let a = numerals::push_count(out, at, b"types=", types);
-    numerals::push_lines(out, a, b"type=", t, 2, 6, types)
+    lines::lines_of_six(out, a, b"type=", t, 2, types)
 }
 
 // The number of predicates and their lines.
@@ -118,6 +121,27 @@ fn write_by(table: &[u32], bytes: &mut [u8], text: &mut [u8]) -> WriteAnswer
     }
 }
 
+// Writes with no way round: there is room for every text.
+fn write_straight(table: &[u32], text: &mut [u8]) -> WriteAnswer
+    requires { ⌜ 3603 ≤ length (now text) ⌝ }
+    ensures { λ r. ⌜ writeOf r ≡ lengthOf (writeCall (now (table .entry)) (length (now (text .entry)))) ⌝ }
+    ensures { λ _. ⌜ now (text .exit) ≡ bufferAfter (writeCall (now (table .entry)) (length (now (text .entry)))) (now (text .entry)) ⌝ }
+{
+    let form = reader::form(table);
+    match form {
+        reader::FormAnswer::Refused { fault, line } => WriteAnswer::Refused { fault, line },
+        reader::FormAnswer::Accepted {
+            types: _,
+            preds: _,
+            roles: _,
+            groups: _,
+        } => {
+            let n = push_text(table, text);
+            WriteAnswer::Accepted { length: n }
+        }
+    }
+}
+
 // No diagram has a longer text.
 fn scratch() -> [u8; 3603] {
     [0u8; 3603]
@@ -128,6 +152,9 @@ pub fn write(table: &[u32], text: &mut [u8]) -> WriteAnswer
     ensures { λ r. ⌜ writeOf r ≡ lengthOf (writeCall (now (table .entry)) (length (now (text .entry)))) ⌝ }
     ensures { λ _. ⌜ now (text .exit) ≡ bufferAfter (writeCall (now (table .entry)) (length (now (text .entry)))) (now (text .entry)) ⌝ }
 {
+    if 3603 <= text.len() {
+        return write_straight(table, text);
+    }
     let mut bytes = scratch();
     write_by(table, &mut bytes, text)
 }

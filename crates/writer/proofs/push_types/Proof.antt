@@ -16,6 +16,6 @@ push-types-spec =
     (λ c. search needs)
     (λ c κs. search needs)
     (λ c. search needs)
-    (λ c κs. search needs)
+    (λ c κs. (search needs, (search needs, search needs)))
     (λ c. search needs)
     (λ c. search (needs, types-is)))

@@ -5,6 +5,7 @@ use mathlib.Core.Path.{_≡_, refl, sym, ap, _∙_, subst}
 use mathlib.Core.List.{List}
 use lib.ListN.{length, take}
 use lib.Seq.{length-take-le}
+use Rattle.orm.specs.Diagram.{Totals, totals, allRoles}
 use Rattle.orm.specs.Text.{tableLine, render}
 use Rattle.orm.specs.Outcome.{Outcome, refused, accepted, _>>=_, lengthOf, fitted, bufferAfter}
 use Rattle.orm.specs.Calls.{diagramIn, writeCall}
@@ -53,6 +54,11 @@ module _ {A B : Type 0} (make : A → B) where
   was-accepted (refused c p r) e = let z : _≡_ {A = ℕ} 0 1 = cc in absurd (omega arith)
   was-accepted (accepted a) e = (a, refl)
 
+-- how many roles an answer tells of
+rolesTold : Outcome Totals → ℕ
+rolesTold (refused c p r) = 0
+rolesTold (accepted x) = x .roles
+
 module _ (t : List ℕ) {form : FormAnswer} (e : formOf form ≡ totalled (diagramIn tableLine t)) where
   module _ {f : Fault} {line : ℕ} (q : form ≡ Refused f line) where
     call-refused : (space : ℕ) → writeCall t space ≡ refused (numberOf f) line 0
@@ -78,6 +84,16 @@ module _ (t : List ℕ) {form : FormAnswer} (e : formOf form ≡ totalled (diagr
 
     pub walkable : Walkable t
     walkable = valid-walkable valid
+
+    -- the roles are those of the diagram
+    pub roles-are : roles ≡ length (allRoles (diagramOf t))
+    unfolding totals rolesTold
+    roles-are =
+        let h = subst (λ (a : FormAnswer). formOf a ≡ totalled (diagramIn tableLine t)) q e in
+        ap rolesTold (h ∙ ap totalled (valid .reads))
+
+    pub roles-few : roles < 1000000
+    roles-few = omega (arith, roles-are, valid .formed .roleCount)
 
     -- what was written into the scratch
     module _ {s s′ : List ℕ} {n : ℕ} (long : length s ≡ 3603) (w : Wrote s 0 (render (diagramOf t)) s′ n) where

@@ -36,21 +36,6 @@ module _ {o o₁ o₂ : List ℕ} {at a b n d : ℕ} (w : Wrote o at (decimal (n
   pub six-digits : 100000 ≤ n → Wrote o at (decimal n) o₂ b
   six-digits h = let l : 10 ≤ n = omega arith in two-digits l
 
--- ---- a key of five bytes
-
-five : (k : List ℕ) → length k ≡ 5 → getD k 0 0 ∷ getD k 1 0 ∷ getD k 2 0 ∷ getD k 3 0 ∷ getD k 4 0 ∷ [] ≡ k
-five [] h = absurd (omega arith)
-five (a ∷ []) h = absurd (omega arith)
-five (a ∷ b ∷ []) h = absurd (omega arith)
-five (a ∷ b ∷ c ∷ []) h = absurd (omega arith)
-five (a ∷ b ∷ c ∷ d ∷ []) h = absurd (omega arith)
-five (a ∷ b ∷ c ∷ d ∷ e ∷ []) h = refl
-five (a ∷ b ∷ c ∷ d ∷ e ∷ f ∷ k) h = absurd (omega arith)
-
-pub key-is : (k : List ℕ) {o o₁ o₂ o₃ : List ℕ} {at a b c : ℕ} → length k ≡ 5 → Wrote o at (getD k 0 0 ∷ getD k 1 0 ∷ []) o₁ a
-    → Wrote o₁ a (getD k 2 0 ∷ getD k 3 0 ∷ []) o₂ b → Wrote o₂ b (getD k 4 0 ∷ []) o₃ c → Wrote o at k o₃ c
-key-is k h w₁ w₂ w₃ = wrote-as (wrote-then w₁ (wrote-then w₂ w₃)) (five k h)
-
 -- ---- the numbers of a line, of which the first is at p
 
 pub number-small : (t : List ℕ) (p : ℕ) {x : ℕ} → Walkable t → x ≡ getD t p 0 → x < 1000000
@@ -102,11 +87,41 @@ module _ (t : List ℕ) (p : ℕ) {o o₁ : List ℕ} {at a x : ℕ} (e : x ≡ 
     pub six-are : Wrote o₁ a (valuesText (numbersFrom (drop (p + 1) t) 0 5)) o₂ b → Wrote o at (valuesText (numbersFrom (drop p t) 0 6)) o₂ b
     six-are = values-are 4
 
+-- ---- a key of four, five or six bytes, by its bytes
+
+all-numbers : (k : List ℕ) → numbersFrom k 0 (length k) ≡ k
+unfolding numbersFrom
+all-numbers [] = refl
+all-numbers (x ∷ k) = ap (λ (s : List ℕ). x ∷ s) (numbers-behind (x ∷ k) 0 (length k) ∙ all-numbers k)
+
+first-numbers : (k : List ℕ) (n : ℕ) → length k ≡ n → numbersFrom k 0 n ≡ k
+first-numbers k n h = ap (numbersFrom k 0) (sym h) ∙ all-numbers k
+
+module _ (k : List ℕ) {o o₁ o₂ : List ℕ} {at a b : ℕ} (w₁ : Wrote o at (getD k 0 0 ∷ getD k 1 0 ∷ []) o₁ a)
+    (w₂ : Wrote o₁ a (getD k 2 0 ∷ getD k 3 0 ∷ []) o₂ b) where
+  pub key-of-four : length k ≡ 4 → Wrote o at k o₂ b
+  unfolding numbersFrom
+  key-of-four h = wrote-as (wrote-then w₁ w₂) (first-numbers k 4 h)
+
+  module _ {o₃ : List ℕ} {c : ℕ} where
+    pub key-is : length k ≡ 5 → Wrote o₂ b (getD k 4 0 ∷ []) o₃ c → Wrote o at k o₃ c
+    unfolding numbersFrom
+    key-is h w₃ = wrote-as (wrote-then w₁ (wrote-then w₂ w₃)) (first-numbers k 5 h)
+
+    pub key-of-six : length k ≡ 6 → Wrote o₂ b (getD k 4 0 ∷ getD k 5 0 ∷ []) o₃ c → Wrote o at k o₃ c
+    unfolding numbersFrom
+    key-of-six h w₃ = wrote-as (wrote-then w₁ (wrote-then w₂ w₃)) (first-numbers k 6 h)
+
 -- ---- lines
 
 pub line-is : {o o₁ o₂ : List ℕ} {at a b : ℕ} (k vs : List ℕ) → Wrote o at k o₁ a → Wrote o₁ a (valuesText vs) o₂ b → Wrote o at (keyed k vs) o₂ b
 unfolding keyed
 line-is k vs w v = wrote-then w v
+
+pub count-is : {o o₁ o₂ : List ℕ} {at a b : ℕ} (k : List ℕ) (x : ℕ) → Wrote o at k o₁ a → Wrote o₁ a (decimal x ++ 10 ∷ []) o₂ b
+    → Wrote o at (keyed k (x ∷ [])) o₂ b
+unfolding keyed valuesText separator
+count-is k x w v = wrote-then w v
 
 pub lines-more : (k : List ℕ) (n : ℕ) (t : List ℕ) (q left : ℕ) → 0 < left
     → Splits (keyedLines k n left (drop q t)) (keyed k (numbersFrom (drop q t) 0 n)) (keyedLines k n (left - 1) (drop (q + n) t))

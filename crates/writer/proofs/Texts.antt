@@ -117,8 +117,8 @@ module _ (t : List ℕ) {o o₁ o₂ : List ℕ} {at a b : ℕ} where
       wrote-as (wrote-then w v)
       (ap (λ (m : ℕ). keyed (bytes "preds=") (m ∷ []) ++ predLines (diagramOf t .preds)) (sym long))
 
-pub text-is : (t : List ℕ) {o o₁ o₂ o₃ o₄ : List ℕ} {a b c d m n : ℕ} → m ≡ length (allRoles (diagramOf t)) → n ≡ m
+pub text-is : (t : List ℕ) {o o₁ o₂ o₃ o₄ : List ℕ} {a b c d n : ℕ} → n ≡ length (allRoles (diagramOf t))
     → Wrote o 0 (keyed (bytes "diagram=") (1 ∷ [])) o₁ a → Wrote o₁ a (typesText (diagramOf t)) o₂ b
     → Wrote o₂ b (predsText (diagramOf t)) o₃ c → Wrote o₃ c (keyed (bytes "end=") (n ∷ [])) o₄ d
     → Wrote o 0 (render (diagramOf t)) o₄ d
-text-is t em en w₁ w₂ w₃ w₄ = wrote-as (wrote-then w₁ (wrote-then w₂ (wrote-then w₃ w₄))) (rw (en, em) (text-whole (diagramOf t)))
+text-is t e w₁ w₂ w₃ w₄ = wrote-as (wrote-then w₁ (wrote-then w₂ (wrote-then w₃ w₄))) (rw e (text-whole (diagramOf t)))

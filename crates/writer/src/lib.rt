@@ -7,9 +7,9 @@ mod digits;
 mod lines;
 
 ghost use mathlib.Core.Path.{_≡_};
-ghost use Prim.Native.Nat.{_≤_};
+ghost use Prim.Native.Nat.{_≤_, _<_};
 ghost use lib.ListN.{length, drop};
-ghost use Rattle.orm.specs.Diagram.{linesOfPred};
+ghost use Rattle.orm.specs.Diagram.{linesOfPred, allRoles};
 ghost use Rattle.orm.specs.Text.{render};
 ghost use Rattle.orm.specs.Outcome.{lengthOf, fitted, bufferAfter};
 ghost use Rattle.orm.specs.Calls.{writeCall};
@@ -60,7 +60,7 @@ fn push_types(t: &[u32], out: &mut [u8], at: usize) -> usize
     ensures { λ r. ⌜ Wrote (now (out .entry)) at (typesText (diagramOf (now (t .entry)))) (now (out .exit)) r ⌝ }
 {
     let types = table::index(table::type_count(t));
-    let a = numerals::push_count(out, at, b"types=", types);
+    let a = lines::count_by_six(out, at, b"types=", types);
     lines::lines_of_six(out, a, b"type=", t, 2, types)
 }
 
@@ -69,19 +69,21 @@ fn push_preds(t: &[u32], out: &mut [u8], at: usize) -> usize
     requires { ⌜ Walkable (now t) ⌝ }
     ensures { λ r. ⌜ Wrote (now (out .entry)) at (predsText (diagramOf (now (t .entry)))) (now (out .exit)) r ⌝ }
 {
-    let a = numerals::push_count(out, at, b"preds=", table::index(table::pred_count(t)));
+    let a = lines::count_by_six(out, at, b"preds=", table::index(table::pred_count(t)));
     push_each_pred(t, out, a)
 }
 
-// The text of the diagram.
-fn push_text(t: &[u32], out: &mut [u8]) -> usize
+// The text of the diagram, which has so many roles.
+fn push_text(t: &[u32], roles: usize, out: &mut [u8]) -> usize
     requires { ⌜ Walkable (now t) ⌝ }
+    requires { ⌜ roles ≡ length (allRoles (diagramOf (now t))) ⌝ }
+    requires { ⌜ roles < 1000000 ⌝ }
     ensures { λ r. ⌜ Wrote (now (out .entry)) 0 (render (diagramOf (now (t .entry)))) (now (out .exit)) r ⌝ }
 {
     let a = numerals::push_count(out, 0, b"diagram=", 1);
     let b = push_types(t, out, a);
     let c = push_preds(t, out, b);
-    numerals::push_count(out, c, b"end=", table::index(table::role_count(t)))
+    lines::count_by_four(out, c, b"end=", roles)
 }
 
 // The bytes go to the front of the text if it is long enough.
@@ -112,10 +114,10 @@ fn write_by(table: &[u32], bytes: &mut [u8], text: &mut [u8]) -> WriteAnswer
         reader::FormAnswer::Accepted {
             types: _,
             preds: _,
-            roles: _,
+            roles,
             groups: _,
         } => {
-            let n = push_text(table, bytes);
+            let n = push_text(table, roles, bytes);
             hand_out(&bytes[..n], text)
         }
     }
@@ -133,10 +135,10 @@ fn write_straight(table: &[u32], text: &mut [u8]) -> WriteAnswer
         reader::FormAnswer::Accepted {
             types: _,
             preds: _,
-            roles: _,
+            roles,
             groups: _,
         } => {
-            let n = push_text(table, text);
+            let n = push_text(table, roles, text);
             WriteAnswer::Accepted { length: n }
         }
     }

@@ -56,6 +56,29 @@ fn push_key(out: &mut [u8], at: usize, key: &[u8]) -> usize
     store(out, b, key[4])
 }
 
+// A key of six bytes.
+fn key_of_six(out: &mut [u8], at: usize, key: &[u8]) -> usize
+    requires { ⌜ at + 6 ≤ length (now out) ⌝ }
+    requires { ⌜ length (now key) ≡ 6 ⌝ }
+    ensures { λ r. ⌜ Wrote (now (out .entry)) at (now (key .entry)) (now (out .exit)) r ⌝ }
+    ensures { λ r. ⌜ r ≡ at + 6 ⌝ }
+{
+    let a = two_bytes(out, at, key, 0);
+    let b = two_bytes(out, a, key, 2);
+    two_bytes(out, b, key, 4)
+}
+
+// A key of four bytes.
+fn key_of_four(out: &mut [u8], at: usize, key: &[u8]) -> usize
+    requires { ⌜ at + 4 ≤ length (now out) ⌝ }
+    requires { ⌜ length (now key) ≡ 4 ⌝ }
+    ensures { λ r. ⌜ Wrote (now (out .entry)) at (now (key .entry)) (now (out .exit)) r ⌝ }
+    ensures { λ r. ⌜ r ≡ at + 4 ⌝ }
+{
+    let to = two_bytes(out, at, key, 0);
+    two_bytes(out, to, key, 2)
+}
+
 fn number(t: &[u32], p: usize) -> usize
     requires { ⌜ Walkable (now t) ⌝ }
     requires { ⌜ p < length (now t) ⌝ }
@@ -260,4 +283,30 @@ pub fn lines_of_six(
         left -= 1;
     }
     to
+}
+
+// A line with one number, by a key of six bytes.
+pub fn count_by_six(out: &mut [u8], at: usize, key: &[u8], n: usize) -> usize
+    requires { ⌜ n < 1000000 ⌝ }
+    requires { ⌜ length (now key) ≡ 6 ⌝ }
+    ensures { λ r. ⌜ Wrote (now (out .entry)) at (keyed (now (key .entry)) (n ∷ [])) (now (out .exit)) r ⌝ }
+{
+    if room(out, at) < 13 {
+        return numerals::push_count(out, at, key, n);
+    }
+    let to = key_of_six(out, at, key);
+    push_last(out, to, n)
+}
+
+// A line with one number, by a key of four bytes.
+pub fn count_by_four(out: &mut [u8], at: usize, key: &[u8], n: usize) -> usize
+    requires { ⌜ n < 1000000 ⌝ }
+    requires { ⌜ length (now key) ≡ 4 ⌝ }
+    ensures { λ r. ⌜ Wrote (now (out .entry)) at (keyed (now (key .entry)) (n ∷ [])) (now (out .exit)) r ⌝ }
+{
+    if room(out, at) < 11 {
+        return numerals::push_count(out, at, key, n);
+    }
+    let to = key_of_four(out, at, key);
+    push_last(out, to, n)
 }

@@ -87,7 +87,7 @@ module _ (t : List ℕ) (p : ℕ) {o o₁ : List ℕ} {at a x : ℕ} (e : x ≡ 
     pub six-are : Wrote o₁ a (valuesText (numbersFrom (drop (p + 1) t) 0 5)) o₂ b → Wrote o at (valuesText (numbersFrom (drop p t) 0 6)) o₂ b
     six-are = values-are 4
 
--- ---- a key of four, five or six bytes, by its bytes
+-- ---- a key by its bytes
 
 all-numbers : (k : List ℕ) → numbersFrom k 0 (length k) ≡ k
 unfolding numbersFrom
@@ -97,20 +97,35 @@ all-numbers (x ∷ k) = ap (λ (s : List ℕ). x ∷ s) (numbers-behind (x ∷ k
 first-numbers : (k : List ℕ) (n : ℕ) → length k ≡ n → numbersFrom k 0 n ≡ k
 first-numbers k n h = ap (numbersFrom k 0) (sym h) ∙ all-numbers k
 
-module _ (k : List ℕ) {o o₁ o₂ : List ℕ} {at a b : ℕ} (w₁ : Wrote o at (getD k 0 0 ∷ getD k 1 0 ∷ []) o₁ a)
-    (w₂ : Wrote o₁ a (getD k 2 0 ∷ getD k 3 0 ∷ []) o₂ b) where
-  pub key-of-four : length k ≡ 4 → Wrote o at k o₂ b
+module _ (k : List ℕ) (i : ℕ) {o o₁ o₂ : List ℕ} {at a b : ℕ} where
+  pub two-bytes : Wrote o at (getD k i 0 ∷ []) o₁ a → Wrote o₁ a (getD k (i + 1) 0 ∷ []) o₂ b → Wrote o at (numbersFrom k i 2) o₂ b
   unfolding numbersFrom
-  key-of-four h = wrote-as (wrote-then w₁ w₂) (first-numbers k 4 h)
+  two-bytes w v =
+      let e : i + 1 ≡ suc i = omega arith in
+      wrote-as (wrote-then w v) (ap (λ (j : ℕ). getD k i 0 ∷ getD k j 0 ∷ []) e)
 
-  module _ {o₃ : List ℕ} {c : ℕ} where
-    pub key-is : length k ≡ 5 → Wrote o₂ b (getD k 4 0 ∷ []) o₃ c → Wrote o at k o₃ c
-    unfolding numbersFrom
-    key-is h w₃ = wrote-as (wrote-then w₁ (wrote-then w₂ w₃)) (first-numbers k 5 h)
+  pub four-bytes : Wrote o at (numbersFrom k i 2) o₁ a → Wrote o₁ a (numbersFrom k (i + 2) 2) o₂ b → Wrote o at (numbersFrom k i 4) o₂ b
+  unfolding numbersFrom
+  four-bytes w v =
+      let e : i + 2 ≡ suc (suc i) = omega arith in
+      wrote-as (wrote-then w v) (ap (λ (j : ℕ). getD k i 0 ∷ getD k (suc i) 0 ∷ getD k j 0 ∷ getD k (suc j) 0 ∷ []) e)
 
-    pub key-of-six : length k ≡ 6 → Wrote o₂ b (getD k 4 0 ∷ getD k 5 0 ∷ []) o₃ c → Wrote o at k o₃ c
+module _ (k : List ℕ) {o o₁ : List ℕ} {at a : ℕ} (w : Wrote o at (numbersFrom k 0 4) o₁ a) where
+  pub key-of-four : length k ≡ 4 → Wrote o at k o₁ a
+  key-of-four h = wrote-as w (first-numbers k 4 h)
+
+  module _ {o₂ : List ℕ} {b : ℕ} where
+    pub key-of-five : length k ≡ 5 → Wrote o₁ a (getD k 4 0 ∷ []) o₂ b → Wrote o at k o₂ b
     unfolding numbersFrom
-    key-of-six h w₃ = wrote-as (wrote-then w₁ (wrote-then w₂ w₃)) (first-numbers k 6 h)
+    key-of-five h v = wrote-as (wrote-then w v) (first-numbers k 5 h)
+
+    pub key-of-six : length k ≡ 6 → Wrote o₁ a (numbersFrom k 4 2) o₂ b → Wrote o at k o₂ b
+    unfolding numbersFrom
+    key-of-six h v = wrote-as (wrote-then w v) (first-numbers k 6 h)
+
+    pub key-of-eight : length k ≡ 8 → Wrote o₁ a (numbersFrom k 4 4) o₂ b → Wrote o at k o₂ b
+    unfolding numbersFrom
+    key-of-eight h v = wrote-as (wrote-then w v) (first-numbers k 8 h)
 
 -- ---- lines
 

@@ -80,7 +80,7 @@ fn push_text(t: &[u32], roles: usize, out: &mut [u8]) -> usize
     requires { ⌜ roles < 1000000 ⌝ }
     ensures { λ r. ⌜ Wrote (now (out .entry)) 0 (render (diagramOf (now (t .entry)))) (now (out .exit)) r ⌝ }
 {
-    let a = numerals::push_count(out, 0, b"diagram=", 1);
+    let a = lines::count_by_eight(out, 0, b"diagram=", 1);
     let b = push_types(t, out, a);
     let c = push_preds(t, out, b);
     lines::count_by_four(out, c, b"end=", roles)

@@ -1,4 +1,4 @@
-// Lines of a valid table: a key of five bytes with its `=`, and some numbers of at most six digits.
+// Lines of a valid table: a key with its `=`, and some numbers of at most six digits.
 //
 // Whether there is room for the longest such line is tested once for a line; where there is not, it
 // is written by `numerals`, with a test for each byte.
@@ -38,34 +38,22 @@ fn rest(t: &[u32], p: usize) -> usize
 fn two_bytes(out: &mut [u8], at: usize, key: &[u8], i: usize) -> usize
     requires { ⌜ at + 2 ≤ length (now out) ⌝ }
     requires { ⌜ i + 2 ≤ length (now key) ⌝ }
-    ensures { λ r. ⌜ Wrote (now (out .entry)) at (getD (now (key .entry)) i 0 ∷ getD (now (key .entry)) (i + 1) 0 ∷ []) (now (out .exit)) r ⌝ }
+    ensures { λ r. ⌜ Wrote (now (out .entry)) at (numbersFrom (now (key .entry)) i 2) (now (out .exit)) r ⌝ }
     ensures { λ r. ⌜ r ≡ at + 2 ⌝ }
 {
     let to = store(out, at, key[i]);
     store(out, to, key[i + 1])
 }
 
-fn push_key(out: &mut [u8], at: usize, key: &[u8]) -> usize
-    requires { ⌜ at + 5 ≤ length (now out) ⌝ }
-    requires { ⌜ length (now key) ≡ 5 ⌝ }
-    ensures { λ r. ⌜ Wrote (now (out .entry)) at (now (key .entry)) (now (out .exit)) r ⌝ }
-    ensures { λ r. ⌜ r ≡ at + 5 ⌝ }
+// Four bytes of a key.
+fn four_bytes(out: &mut [u8], at: usize, key: &[u8], i: usize) -> usize
+    requires { ⌜ at + 4 ≤ length (now out) ⌝ }
+    requires { ⌜ i + 4 ≤ length (now key) ⌝ }
+    ensures { λ r. ⌜ Wrote (now (out .entry)) at (numbersFrom (now (key .entry)) i 4) (now (out .exit)) r ⌝ }
+    ensures { λ r. ⌜ r ≡ at + 4 ⌝ }
 {
-    let a = two_bytes(out, at, key, 0);
-    let b = two_bytes(out, a, key, 2);
-    store(out, b, key[4])
-}
-
-// A key of six bytes.
-fn key_of_six(out: &mut [u8], at: usize, key: &[u8]) -> usize
-    requires { ⌜ at + 6 ≤ length (now out) ⌝ }
-    requires { ⌜ length (now key) ≡ 6 ⌝ }
-    ensures { λ r. ⌜ Wrote (now (out .entry)) at (now (key .entry)) (now (out .exit)) r ⌝ }
-    ensures { λ r. ⌜ r ≡ at + 6 ⌝ }
-{
-    let a = two_bytes(out, at, key, 0);
-    let b = two_bytes(out, a, key, 2);
-    two_bytes(out, b, key, 4)
+    let to = two_bytes(out, at, key, i);
+    two_bytes(out, to, key, i + 2)
 }
 
 // A key of four bytes.
@@ -75,8 +63,40 @@ fn key_of_four(out: &mut [u8], at: usize, key: &[u8]) -> usize
     ensures { λ r. ⌜ Wrote (now (out .entry)) at (now (key .entry)) (now (out .exit)) r ⌝ }
     ensures { λ r. ⌜ r ≡ at + 4 ⌝ }
 {
-    let to = two_bytes(out, at, key, 0);
-    two_bytes(out, to, key, 2)
+    four_bytes(out, at, key, 0)
+}
+
+// A key of five bytes.
+fn key_of_five(out: &mut [u8], at: usize, key: &[u8]) -> usize
+    requires { ⌜ at + 5 ≤ length (now out) ⌝ }
+    requires { ⌜ length (now key) ≡ 5 ⌝ }
+    ensures { λ r. ⌜ Wrote (now (out .entry)) at (now (key .entry)) (now (out .exit)) r ⌝ }
+    ensures { λ r. ⌜ r ≡ at + 5 ⌝ }
+{
+    let to = four_bytes(out, at, key, 0);
+    store(out, to, key[4])
+}
+
+// A key of six bytes.
+fn key_of_six(out: &mut [u8], at: usize, key: &[u8]) -> usize
+    requires { ⌜ at + 6 ≤ length (now out) ⌝ }
+    requires { ⌜ length (now key) ≡ 6 ⌝ }
+    ensures { λ r. ⌜ Wrote (now (out .entry)) at (now (key .entry)) (now (out .exit)) r ⌝ }
+    ensures { λ r. ⌜ r ≡ at + 6 ⌝ }
+{
+    let to = four_bytes(out, at, key, 0);
+    two_bytes(out, to, key, 4)
+}
+
+// A key of eight bytes.
+fn key_of_eight(out: &mut [u8], at: usize, key: &[u8]) -> usize
+    requires { ⌜ at + 8 ≤ length (now out) ⌝ }
+    requires { ⌜ length (now key) ≡ 8 ⌝ }
+    ensures { λ r. ⌜ Wrote (now (out .entry)) at (now (key .entry)) (now (out .exit)) r ⌝ }
+    ensures { λ r. ⌜ r ≡ at + 8 ⌝ }
+{
+    let to = four_bytes(out, at, key, 0);
+    four_bytes(out, to, key, 4)
 }
 
 fn number(t: &[u32], p: usize) -> usize
@@ -161,7 +181,7 @@ fn line_of_two(out: &mut [u8], at: usize, key: &[u8], t: &[u32], p: usize) -> us
     if rest(t, p) < 2 {
         return numerals::push_line(out, at, key, t, p, 2);
     }
-    let to = push_key(out, at, key);
+    let to = key_of_five(out, at, key);
     two_values(out, to, t, p)
 }
 
@@ -176,7 +196,7 @@ fn line_of_three(out: &mut [u8], at: usize, key: &[u8], t: &[u32], p: usize) -> 
     if rest(t, p) < 3 {
         return numerals::push_line(out, at, key, t, p, 3);
     }
-    let to = push_key(out, at, key);
+    let to = key_of_five(out, at, key);
     three_values(out, to, t, p)
 }
 
@@ -191,7 +211,7 @@ pub fn line_of_four(out: &mut [u8], at: usize, key: &[u8], t: &[u32], p: usize) 
     if rest(t, p) < 4 {
         return numerals::push_line(out, at, key, t, p, 4);
     }
-    let to = push_key(out, at, key);
+    let to = key_of_five(out, at, key);
     four_values(out, to, t, p)
 }
 
@@ -206,7 +226,7 @@ fn line_of_six(out: &mut [u8], at: usize, key: &[u8], t: &[u32], p: usize) -> us
     if rest(t, p) < 6 {
         return numerals::push_line(out, at, key, t, p, 6);
     }
-    let to = push_key(out, at, key);
+    let to = key_of_five(out, at, key);
     six_values(out, to, t, p)
 }
 
@@ -285,7 +305,19 @@ pub fn lines_of_six(
     to
 }
 
-// A line with one number, by a key of six bytes.
+// A line with one number, by a key of eight bytes, and so on.
+pub fn count_by_eight(out: &mut [u8], at: usize, key: &[u8], n: usize) -> usize
+    requires { ⌜ n < 1000000 ⌝ }
+    requires { ⌜ length (now key) ≡ 8 ⌝ }
+    ensures { λ r. ⌜ Wrote (now (out .entry)) at (keyed (now (key .entry)) (n ∷ [])) (now (out .exit)) r ⌝ }
+{
+    if room(out, at) < 15 {
+        return numerals::push_count(out, at, key, n);
+    }
+    let to = key_of_eight(out, at, key);
+    push_last(out, to, n)
+}
+
 pub fn count_by_six(out: &mut [u8], at: usize, key: &[u8], n: usize) -> usize
     requires { ⌜ n < 1000000 ⌝ }
     requires { ⌜ length (now key) ≡ 6 ⌝ }
@@ -298,7 +330,6 @@ pub fn count_by_six(out: &mut [u8], at: usize, key: &[u8], n: usize) -> usize
     push_last(out, to, n)
 }
 
-// A line with one number, by a key of four bytes.
 pub fn count_by_four(out: &mut [u8], at: usize, key: &[u8], n: usize) -> usize
     requires { ⌜ n < 1000000 ⌝ }
     requires { ⌜ length (now key) ≡ 4 ⌝ }

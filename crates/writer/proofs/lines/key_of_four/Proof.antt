@@ -10,6 +10,5 @@ key-of-four-spec =
     tie.close
     (tie.spec
     (λ c κs. search needs)
-    (λ c κs. search needs)
     (λ c. search needs)
     (λ c. search (needs, key-of-four)))

@@ -11,6 +11,5 @@ key-of-six-spec =
     (tie.spec
     (λ c κs. search needs)
     (λ c κs. search needs)
-    (λ c κs. search needs)
     (λ c. search needs)
     (λ c. search (needs, key-of-six)))

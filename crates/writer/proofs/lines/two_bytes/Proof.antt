@@ -1,6 +1,6 @@
--- `writer::lines::two_bytes` meets its contract. One after the other.
+-- `writer::lines::two_bytes` meets its contract. One after another.
 -- Assumes nothing.
-use Rattle.buffer.specs.Laws.{wrote-cons}
+use Rattle.writer.proofs.Numbers.{two-bytes}
 use borrow.Author.Needs.{needs}
 use Rattle.writer.proofs.lines.two_bytes.Statement.{statement}
 use Rattle.writer.proofs.lines.two_bytes.Tie as tie
@@ -15,4 +15,4 @@ two-bytes-spec =
     (λ c. search needs)
     (λ c κs. search needs)
     (λ c. search needs)
-    (λ c. search (needs, wrote-cons)))
+    (λ c. search (needs, two-bytes)))

@@ -2,3 +2,4 @@ pub mod Blocks
 pub mod Cuts
 pub mod Places
 pub mod Extents
+pub mod Standing

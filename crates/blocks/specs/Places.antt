@@ -1,6 +1,6 @@
 -- The laws of places in cells: where a block ends, and what the columns and rows there hold.
 use Prim.Native.Nat.{ℕ, zero, suc, _+_, _*_, _-_, _≤_, _<_, min}
-use native.Mathlib.Nat.{add-comm, add-zero, mul-le-mul}
+use native.Mathlib.Nat.{add-comm, add-zero, mul-le-mul, mul-one, zero-mul}
 use native.Mathlib.Numerals.{one-add}
 use native.Mathlib.Omega.{arith}
 use mathlib.Core.Path.{_≡_, refl, sym, ap, ap₂, _∙_}
@@ -20,6 +20,7 @@ use Rattle.table.specs.Laws.Walks.{each-length, preds-more, preds-none}
 use Rattle.columns.specs.declared.Column.{Column}
 use Rattle.columns.specs.declared.Rows.{Rows}
 use Rattle.columns.specs.Values.{spaced, valuesIn}
+use Rattle.columns.specs.Reach.{Reached}
 use Rattle.blocks.specs.declared.End.{End}
 use Rattle.blocks.specs.declared.End.the-variants.{At, Short}
 use Rattle.blocks.specs.Cuts.{fits-length}
@@ -193,6 +194,15 @@ module _ (s : List ℕ) (at start : ℕ) {v i c : ℕ} (h : drop start s ≡ dro
   pub members-count : c ≡ length (membersAt (drop at s))
   members-count = size-is ∙ sym (length-take (getD (drop at s) 0 0) (drop 1 (drop at s)))
 
+pub members-reached : (s : List ℕ) (start i : ℕ) {c : ℕ} → start ≤ length s → c ≡ min i (length s - start)
+    → Reached s (record { start = start; step = 1; count = c })
+members-reached s start i {c} h g = record { apart = omega arith; narrow = omega arith; reach = omega (arith, mul-one c) }
+
+pub nothing-reached : (s : List ℕ) (c : Column) → c .count ≡ 0 → c .start ≡ 0 → c .step ≡ 1 → Reached s c
+nothing-reached s c n a w =
+    let z : c .count * c .step ≡ 0 = rw (n, zero-mul) in
+    record { apart = omega arith; narrow = omega arith; reach = omega arith }
+
 getD-members : (ts : List ObjectType) (i : ℕ) (s : List ℕ) → i < length ts
     → getD (membersIn ts s) i [] ≡ membersAt (behind (replicate i 1) s)
 unfolding contents behind
@@ -227,10 +237,23 @@ pub record RowsHere (s : List ℕ) (at width : ℕ) (r : Rows) : Type 0 where
   pub start : drop (r .start) s ≡ drop 1 (drop at s)
   pub wide : r .width ≡ width
   pub count : r .count ≡ getD (drop at s) 0 0
+  pub inside : r .start ≤ length s
 
-pub rows-here : (s : List ℕ) (at width start : ℕ) {v i : ℕ} → drop start s ≡ drop 1 (drop at s) → v ≡ getD (drop at s) 0 0 → i ≡ v
-    → RowsHere s at width (record { start = start; width = width; count = i })
-rows-here s at width start h e f = record { start = h; wide = refl; count = f ∙ e }
+pub rows-here : (s : List ℕ) (at width start : ℕ) {v i : ℕ} → drop start s ≡ drop 1 (drop at s) → start ≤ length s → v ≡ getD (drop at s) 0 0
+    → i ≡ v → RowsHere s at width (record { start = start; width = width; count = i })
+rows-here s at width start h l e f = record { start = h; wide = refl; count = f ∙ e; inside = l }
+
+-- A column of those rows: where it starts at most
+pub record ColumnHere (s : List ℕ) (at width : ℕ) (c : Column) : Type 0 where
+  pub step : c .step ≡ width
+  pub apart : 0 < width
+  pub count : c .count ≡ getD (drop at s) 0 0
+  pub inside : c .start ≤ length s
+  pub near : c .start < at + 1 + width
+
+pub column-here : (s : List ℕ) (at width j first start : ℕ) {v i : ℕ} → j < width → first ≤ at + 1 → start ≤ length s → start ≤ first + j
+    → v ≡ getD (drop at s) 0 0 → i ≡ v → ColumnHere s at width (record { start = start; step = width; count = i })
+column-here s at width j first start h p l q e f = record { step = refl; apart = omega arith; count = f ∙ e; inside = l; near = omega arith }
 
 column-spaced : (k w j : ℕ) (l : List ℕ) → j < w → spaced k w (drop j l) ≡ column j (rowsOf k w l)
 unfolding spaced column rowsOf

@@ -10,9 +10,10 @@ ghost use Rattle.orm.specs.Calls.{populationIn};
 ghost use Rattle.orm.specs.Constraints.{membersOf};
 ghost use Rattle.table.specs.Positions.{diagramOf, predOf, predsIn, Walkable};
 ghost use Rattle.columns.specs.Values.{valuesIn};
+ghost use Rattle.columns.specs.Reach.{Reached};
 ghost use Rattle.blocks.specs.Blocks.{blockLength, blockFits, membersAt, rowsAt, behind, behindTypes, populationAt, predWidth, endOf, extentOf};
 ghost use Rattle.blocks.specs.Cuts.{TypesEnd};
-ghost use Rattle.blocks.specs.Places.{RowsHere};
+ghost use Rattle.blocks.specs.Places.{RowsHere, ColumnHere};
 
 // Where blocks end, or that one is short.
 pub enum End {
@@ -151,7 +152,7 @@ fn smaller(a: usize, b: usize) -> usize
 pub fn members(cells: &[u32], at: usize) -> Column
     ensures { λ r. ⌜ valuesIn (now (cells .entry)) r ≡ membersAt (drop at (now (cells .entry))) ⌝ }
     ensures { λ r. ⌜ r .count ≡ length (membersAt (drop at (now (cells .entry)))) ⌝ }
-    ensures { λ r. ⌜ 0 < r .step ⌝ }
+    ensures { λ r. ⌜ Reached (now (cells .entry)) r ⌝ }
 {
     let start = columns::next(cells, at, 1);
     let size = columns::index(columns::cell(cells, at, 0));
@@ -171,6 +172,8 @@ fn before(number: u32) -> u32
 
 fn nothing() -> Column
     ensures { λ r. ⌜ r .count ≡ 0 ⌝ }
+    ensures { λ r. ⌜ r .start ≡ 0 ⌝ }
+    ensures { λ r. ⌜ r .step ≡ 1 ⌝ }
 {
     Column {
         start: 0,
@@ -183,6 +186,7 @@ fn nothing() -> Column
 pub fn members_of(t: &[u32], cells: &[u32], number: u32) -> Column
     requires { ⌜ Walkable (now t) ⌝ }
     ensures { λ r. ⌜ valuesIn (now (cells .entry)) r ≡ membersOf (populationAt (diagramOf (now (t .entry))) (now (cells .entry))) number ⌝ }
+    ensures { λ r. ⌜ Reached (now (cells .entry)) r ⌝ }
 {
     let i = before(number);
     if i < table::type_count(t) {
@@ -209,7 +213,7 @@ pub fn rows(cells: &[u32], at: usize, width: usize) -> Rows
 pub fn column(cells: &[u32], at: usize, width: usize, j: usize) -> Column
     requires { ⌜ j < width ⌝ }
     ensures { λ r. ⌜ valuesIn (now (cells .entry)) r ≡ column j (rowsAt width (drop at (now (cells .entry)))) ⌝ }
-    ensures { λ r. ⌜ r .step ≡ width ⌝ }
+    ensures { λ r. ⌜ ColumnHere (now (cells .entry)) at width r ⌝ }
 {
     let first = columns::next(cells, at, 1);
     let start = columns::next(cells, first, j);

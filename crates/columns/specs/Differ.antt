@@ -44,7 +44,7 @@ once-differ ks =
 -- ---- whole rows
 
 -- the columns of a row of up to six cells
-in-order : (w : ℕ) → w ≤ 6 → take w (0 ∷ 1 ∷ 2 ∷ 3 ∷ 4 ∷ 5 ∷ []) ≡ upFrom 0 w
+pub in-order : (w : ℕ) → w ≤ 6 → take w (0 ∷ 1 ∷ 2 ∷ 3 ∷ 4 ∷ 5 ∷ []) ≡ upFrom 0 w
 unfolding upFrom
 in-order zero h = refl
 in-order (suc zero) h = refl

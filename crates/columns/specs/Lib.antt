@@ -3,3 +3,4 @@ pub mod Walks
 pub mod Differ
 pub mod Passes
 pub mod Single
+pub mod Reach

@@ -1,5 +1,6 @@
 -- The laws of a walk down a column or down rows: what is left is what stands here and what is left from the next place on.
 use Prim.Native.Nat.{ℕ, zero, suc, _+_, _-_, _≤_, _<_}
+use native.Mathlib.Nat.{add-zero}
 use native.Mathlib.Omega.{arith}
 use mathlib.Core.Path.{_≡_, refl, sym, ap, _∙_}
 use mathlib.Core.List.{List, [], _∷_}
@@ -20,6 +21,9 @@ module _ (s : List ℕ) (at j : ℕ) where
 
   pub cell-behind : length s - at ≤ j → 0 ≡ getD (drop at s) j 0
   cell-behind h = let k : length (drop at s) ≤ j = simp length-drop (omega arith) in sym (List·getD-eq-default (drop at s) 0 k)
+
+pub value-here : (s : List ℕ) (at : ℕ) → getD s at 0 ≡ getD (drop at s) 0 0
+value-here s at = ap (λ (m : ℕ). getD s m 0) (sym (add-zero at)) ∙ cell-here s at 0
 
 -- ---- the next place
 

@@ -1,7 +1,7 @@
 // Tests of the columns and rows that stand in a slice of cells: members, sublists, occurrences.
 ghost use mathlib.Core.Path.{_≡_};
 ghost use mathlib.Core.List.{map};
-ghost use Prim.Native.Nat.{_≤_, _<_};
+ghost use Prim.Native.Nat.{_+_, _≤_, _<_};
 ghost use lib.Dec.{eqb};
 ghost use lib.ListN.{length, getD, take, drop};
 ghost use Rattle.counting.specs.Lists.{same, combination};
@@ -9,6 +9,7 @@ ghost use Rattle.counting.specs.Distinct.{all, member, occurrences, within};
 ghost use Rattle.counting.specs.Totals.{bit};
 ghost use Rattle.orm.specs.Form.{inRange, _to_};
 ghost use Rattle.columns.specs.Values.{valuesIn, keysIn, occurring};
+ghost use Rattle.columns.specs.Reach.{Keyed, Held, Reached};
 
 // `count` cells, the first at `start` and each `step` after the one before.
 pub struct Column {
@@ -48,6 +49,7 @@ pub fn cell(s: &[u32], at: usize, j: usize) -> u32
 pub fn next(s: &[u32], at: usize, step: usize) -> usize
     ensures { λ r. ⌜ drop r (now (s .entry)) ≡ drop step (drop at (now (s .entry))) ⌝ }
     ensures { λ r. ⌜ r ≤ length (now (s .entry)) ⌝ }
+    ensures { λ r. ⌜ r ≤ at + step ⌝ }
 {
     if s.len() <= at {
         return s.len();
@@ -58,17 +60,26 @@ pub fn next(s: &[u32], at: usize, step: usize) -> usize
     at + step
 }
 
+// The cell at `at`.
+pub fn value_at(s: &[u32], at: usize) -> u32
+    requires { ⌜ at < length (now s) ⌝ }
+    ensures { λ r. ⌜ r ≡ getD (drop at (now (s .entry))) 0 0 ⌝ }
+{
+    s[at]
+}
+
 // x stands in the column.
 pub fn found(s: &[u32], column: Column, x: u32) -> bool
+    requires { ⌜ Reached (now s) column ⌝ }
     ensures { λ r. ⌜ r ≡ member eqb x (valuesIn (now (s .entry)) column) ⌝ }
 {
     let mut at = column.start;
     let mut left = column.count;
     while 0 < left {
-        if cell(s, at, 0) == x {
+        if value_at(s, at) == x {
             return true;
         }
-        at = next(s, at, column.step);
+        at += column.step;
         left -= 1;
     }
     false
@@ -76,15 +87,17 @@ pub fn found(s: &[u32], column: Column, x: u32) -> bool
 
 // Every value of the first column stands in the second.
 pub fn within(s: &[u32], column: Column, other: Column) -> bool
+    requires { ⌜ Reached (now s) column ⌝ }
+    requires { ⌜ Reached (now s) other ⌝ }
     ensures { λ r. ⌜ r ≡ within eqb (valuesIn (now (s .entry)) column) (valuesIn (now (s .entry)) other) ⌝ }
 {
     let mut at = column.start;
     let mut left = column.count;
     while 0 < left {
-        if !found(s, other, cell(s, at, 0)) {
+        if !found(s, other, value_at(s, at)) {
             return false;
         }
-        at = next(s, at, column.step);
+        at += column.step;
         left -= 1;
     }
     true
@@ -101,32 +114,34 @@ pub fn in_range(low: u32, high: u32, x: usize) -> bool
 
 // Every value of the column is `low` to `high`.
 pub fn all_in_range(s: &[u32], column: Column, low: u32, high: u32) -> bool
+    requires { ⌜ Reached (now s) column ⌝ }
     ensures { λ r. ⌜ r ≡ all (inRange (low to high)) (valuesIn (now (s .entry)) column) ⌝ }
 {
     let mut at = column.start;
     let mut left = column.count;
     while 0 < left {
-        if !in_range(low, high, index(cell(s, at, 0))) {
+        if !in_range(low, high, index(value_at(s, at))) {
             return false;
         }
-        at = next(s, at, column.step);
+        at += column.step;
         left -= 1;
     }
     true
 }
 
-// Cell j of the row of `width` cells that starts at `at`; 0 past its end.
+// Cell j of the row of `width` cells that starts at `at`.
 pub fn row_cell(s: &[u32], at: usize, width: usize, j: usize) -> u32
+    requires { ⌜ j < width ⌝ }
+    requires { ⌜ at + j < length (now s) ⌝ }
     ensures { λ r. ⌜ r ≡ getD (take width (drop at (now (s .entry)))) j 0 ⌝ }
 {
-    if width <= j {
-        return 0;
-    }
-    cell(s, at, j)
+    s[at + j]
 }
 
 // The rows that start at a and at b hold the same in the columns `js`.
 pub fn same_key(s: &[u32], width: usize, js: &[u32], a: usize, b: usize) -> bool
+    requires { ⌜ Held (now s) width (now js) a ⌝ }
+    requires { ⌜ Held (now s) width (now js) b ⌝ }
     ensures { λ r. ⌜ r ≡ same (combination (now (js .entry)) (take width (drop a (now (s .entry))))) (combination (now (js .entry)) (take width (drop b (now (s .entry))))) ⌝ }
 {
     let mut i = 0;
@@ -149,6 +164,8 @@ fn bit(b: bool) -> usize
 
 // How many rows hold in the columns `js` what the row that starts at `a` holds there.
 pub fn occurrences(s: &[u32], rows: Rows, js: &[u32], a: usize) -> usize
+    requires { ⌜ Keyed (now s) rows (now js) ⌝ }
+    requires { ⌜ Held (now s) (rows .width) (now js) a ⌝ }
     ensures { λ r. ⌜ r ≡ occurrences same (combination (now (js .entry)) (take (rows .width) (drop a (now (s .entry))))) (keysIn (now (s .entry)) rows (now (js .entry))) ⌝ }
 {
     let mut at = rows.start;
@@ -156,7 +173,7 @@ pub fn occurrences(s: &[u32], rows: Rows, js: &[u32], a: usize) -> usize
     let mut n: usize = 0;
     while 0 < left {
         n += bit(same_key(s, rows.width, js, a, at));
-        at = next(s, at, rows.width);
+        at += rows.width;
         left -= 1;
     }
     n
@@ -164,6 +181,7 @@ pub fn occurrences(s: &[u32], rows: Rows, js: &[u32], a: usize) -> usize
 
 // What each row holds in the columns `js`, `low` to `high` rows hold.
 pub fn occurring(s: &[u32], rows: Rows, js: &[u32], low: u32, high: u32) -> bool
+    requires { ⌜ Keyed (now s) rows (now js) ⌝ }
     ensures { λ r. ⌜ r ≡ occurring low high (keysIn (now (s .entry)) rows (now (js .entry))) (keysIn (now (s .entry)) rows (now (js .entry))) ⌝ }
 {
     let mut at = rows.start;
@@ -172,7 +190,7 @@ pub fn occurring(s: &[u32], rows: Rows, js: &[u32], low: u32, high: u32) -> bool
         if !in_range(low, high, occurrences(s, rows, js, at)) {
             return false;
         }
-        at = next(s, at, rows.width);
+        at += rows.width;
         left -= 1;
     }
     true

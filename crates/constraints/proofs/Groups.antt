@@ -2,7 +2,7 @@
 use Prim.Native.Nat.{ℕ, suc, _+_, _*_, _-_, _≤_, _<_}
 use native.Mathlib.Numerals.{add-one}
 use native.Mathlib.Omega.{arith}
-use mathlib.Core.Path.{_≡_, refl, sym, ap, ap₂, _∙_}
+use mathlib.Core.Path.{_≡_, refl, sym, ap, ap₂, subst⁻¹, _∙_}
 use mathlib.Core.Bool.{Bool, true, false, not, _&&_}
 use mathlib.Core.List.{List, [], _∷_, _++_, map, append-assoc, append-nil}
 use lib.Dec.{eqb}
@@ -10,7 +10,9 @@ use lib.ListN.{length, getD, take, drop, set}
 use lib.Seq.{drop-drop, take-suc-set, length-take-le}
 use borrow.Author.Tests.{eq-eqb, ne-eqb, not-true, not-false}
 use Rattle.counting.specs.Lists.{mapFrom, same, combination}
+use Rattle.counting.specs.Terms.{Each}
 use Rattle.counting.specs.Distinct.{all, occurrences}
+use Rattle.counting.specs.Laws.Members.{each-nil, each-cons}
 use Rattle.orm.specs.Diagram.{Role, Frequency, Predicate}
 use Rattle.orm.specs.Form.{roleOf, groupOf, _to_, inRange}
 use Rattle.orm.specs.Sets.{select, rolesInGroup}
@@ -20,10 +22,12 @@ use Rattle.table.specs.Positions.{predOf, rolesIn, groupsIn}
 use Rattle.table.specs.Laws.Walks.{each-more, each-none, each-length}
 use Rattle.columns.specs.declared.Rows.{Rows}
 use Rattle.columns.specs.Values.{keysOf, keysIn, occurring}
+use Rattle.columns.specs.Reach.{Keyed, rows-keyed}
 use Rattle.blocks.specs.Blocks.{predWidth, rowsAt}
 use Rattle.blocks.specs.Places.{RowsHere, roles-at}
+use Rattle.blocks.specs.Standing.{PredHere}
 use Rattle.constraints.specs.Tests.{predTest, groupTest, groupsTest, pushed}
-use Rattle.constraints.proofs.Preds.{rows-held}
+use Rattle.constraints.proofs.Preds.{rows-held, rows-few, rows-wide}
 
 -- ---- the columns of a group
 
@@ -63,6 +67,27 @@ columns-start t g pred out e = ap (rolesInGroup g 0) (roles-at t pred e)
 
 pub part-count : (xs : List ℕ) (n : ℕ) → length xs ≡ 6 → n ≤ 6 → n ≡ length (take n xs)
 part-count xs n e h = let k : n ≤ length xs = omega arith in sym (length-take-le n xs k)
+
+select-below : (test : Role → Bool) (i : ℕ) (rs : List Role) → Each (λ (j : ℕ). j < i + length rs) (select test i rs)
+unfolding select
+select-below test i [] = each-nil _
+select-below test i (r ∷ rs) = go (test r) (λ j m. omega (arith, select-below test (suc i) rs j m))
+  where
+    go : (b : Bool) → Each (λ (j : ℕ). j < i + suc (length rs)) (select test (suc i) rs)
+        → Each (λ (j : ℕ). j < i + suc (length rs)) (elim b [ true ↦ i ∷ select test (suc i) rs | false ↦ select test (suc i) rs ])
+    go true h = each-cons _ (omega arith) h
+    go false h = h
+
+-- the rows are there as far as the columns of a group reach
+pub group-keyed : (t s : List ℕ) (pred at g : ℕ) (r : Rows) (js : List ℕ) {w : ℕ} → PredHere t s pred at → RowsHere s at w r
+    → w ≡ predWidth (predOf (drop pred t)) → js ≡ rolesInGroup g 0 (predOf (drop pred t) .roles) → Keyed s r js
+unfolding rolesInGroup
+group-keyed t s pred at g r js here h e q =
+    rows-keyed s r js (rows-few t s pred at r here h e) (h .inside) (rows-wide t s pred at r here h e)
+    (record {
+      each = subst⁻¹ (Each (λ (j : ℕ). j < r .width)) q
+          (λ j m. omega (arith, h .wide, e, select-below (λ (x : Role). eqb (x .group) g) 0 (predOf (drop pred t) .roles) j m));
+    })
 
 pub k9-group : (t s : List ℕ) (pred at g line : ℕ) (r : Rows) (js : List ℕ) {b : Bool} {w low high : ℕ} → RowsHere s at w r
     → w ≡ predWidth (predOf (drop pred t)) → low ≡ getD (drop line t) 0 0 → high ≡ getD (drop line t) 1 0

@@ -9,20 +9,16 @@ use mathlib.Core.List.{List, [], _∷_}
 use lib.Dec.{leb}
 use lib.ListN.{length, getD, drop}
 use borrow.Author.Tests.{le-leb, lt-leb, not-true, not-false}
-use Rattle.counting.specs.Terms.{Each, Each2}
-use Rattle.counting.specs.Laws.Members.{each-head, each-tail}
 use Rattle.orm.specs.Diagram.{ObjectType, Predicate, Diagram}
 use Rattle.orm.specs.Form.{typeOf, roleOf}
 use Rattle.orm.specs.Population.{Population}
 use Rattle.orm.specs.Constraints.{Answer, valid, breaks, eachType, eachPred, firstFalse, firstBroken, constraints, answer}
-use Rattle.orm.specs.Meaning.{Rows}
-use Rattle.orm.specs.Laws.Cells.{population-in-iff}
 use Rattle.table.specs.Positions.{predOf, predLength, typesIn, predsIn, typeCount, predCount, firstPredAt, diagramOf}
 use Rattle.table.specs.Laws.Walks.{each-more, each-none, preds-more, preds-none}
 use Rattle.blocks.specs.Blocks.{blockLength, contents, predWidth, membersAt, rowsAt, membersIn, rowsIn, behindTypes, populationAt}
 use Rattle.playing.specs.Playing.{populationOf}
 use Rattle.constraints.specs.declared.Verdict.the-variants as verdicts
-use Rattle.constraints.specs.Tests.{typeTest, predTest, PredHere, Standing, Populated, numberIn, ofTypes, kept, keptFrom, answerOf}
+use Rattle.constraints.specs.Tests.{typeTest, predTest, numberIn, ofTypes, kept, keptFrom, answerOf}
 
 -- ---- the lowest type
 
@@ -78,37 +74,6 @@ pub preds-start : (k : ℕ) (t s : List ℕ) (pred at left : ℕ) → pred ≡ f
     ≡ firstFalse 1 (eachPred (predTest k (populationOf t s)) (diagramOf t .preds) (populationOf t s .preds))
 unfolding diagramOf populationAt
 preds-start k t s pred at left e f q = rw (e, f, q)
-
--- ---- the predicates left have few roles and whole rows
-
-module _ (t s : List ℕ) (pred at left : ℕ) (st : Standing t s pred at left) (h : 0 < left) where
-  pub standing-here : pred + 5000000 * left ≤ 200000000 → PredHere t s pred at
-  unfolding contents
-  standing-here near =
-      let few : Each (λ (p : Predicate). predWidth p ≤ 6) (predOf (drop pred t) ∷ predsIn (left - 1) (drop (pred + predLength (drop pred t)) t)) =
-      rw (preds-more t pred left h refl) at (st .few) in
-      let wide = rw (preds-more t pred left h refl) at (st .wide) in
-      record { few = each-head _ few; wide = wide .0; near = omega arith }
-
-  pub standing-more : (next to : ℕ) {w : ℕ} → w ≡ predWidth (predOf (drop pred t)) → next ≡ pred + predLength (drop pred t)
-      → drop to s ≡ drop (blockLength w (drop at s)) (drop at s) → Standing t s next to (left - 1)
-  unfolding contents
-  standing-more next to f q z =
-      let few : Each (λ (p : Predicate). predWidth p ≤ 6) (predOf (drop pred t) ∷ predsIn (left - 1) (drop next t)) = rw (preds-more t pred left h q) at (st .few) in
-      let wide = rw (preds-more t pred left h q) at (st .wide) in
-      record { few = each-tail _ few; wide = rw (z, f) (wide .1) }
-
-pub standing-start : (t s : List ℕ) (pred at left : ℕ) → Populated t s → pred ≡ firstPredAt t → left ≡ predCount t
-    → drop at s ≡ behindTypes (diagramOf t) s
-    → Standing t s pred at left
-unfolding diagramOf populationAt
-standing-start t s pred at left j e f q =
-    let shaped = population-in-iff (diagramOf t) s (populationOf t s) .0 (j .whole) .1 in
-    let formed = j .valid .formed .preds in
-    record {
-      few = rw (e, f) (λ p m. formed p m .arity .1);
-      wide = rw (e, f, q) (shaped .preds);
-    }
 
 -- ---- types or predicates
 

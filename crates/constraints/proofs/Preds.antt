@@ -23,7 +23,8 @@ use Rattle.columns.specs.Values.{valuesIn}
 use Rattle.columns.specs.Differ.{Wide, rowsHeld}
 use Rattle.blocks.specs.Blocks.{predWidth, rowsAt}
 use Rattle.blocks.specs.Places.{RowsHere, roles-at}
-use Rattle.constraints.specs.Tests.{predTest, filled, roleTest, rolesTest, groupsTest, PredHere}
+use Rattle.blocks.specs.Standing.{PredHere}
+use Rattle.constraints.specs.Tests.{predTest, filled, roleTest, rolesTest, groupsTest}
 use Rattle.playing.specs.Playing.{populationOf}
 
 -- ---- rows

@@ -1,26 +1,16 @@
 -- The constraints by their numbers, and the tests that they are made of.
-use Prim.Native.Nat.{ℕ, zero, suc, _≤_}
-use mathlib.Core.Path.{_≡_}
+use Prim.Native.Nat.{ℕ, zero, suc}
 use mathlib.Core.Bool.{Bool, true, false, _&&_, _||_}
 use mathlib.Core.Option.{Option, none, some}
 use mathlib.Core.List.{List, [], _∷_, _++_, map}
 use lib.Dec.{eqb, leb}
-use lib.ListN.{length, getD, drop}
 use Rattle.counting.specs.Lists.{column, combination}
-use Rattle.counting.specs.Terms.{Each, Each2}
 use Rattle.counting.specs.Distinct.{member, within}
 use Rattle.orm.specs.Diagram.{ObjectType, Role, Frequency, Predicate, Diagram, isMandatory}
 use Rattle.orm.specs.Sets.{rolesInGroup}
 use Rattle.orm.specs.Population.{Population}
 use Rattle.orm.specs.Constraints.{Answer, valid, breaks, eachType, eachPred, valuesInRoles, allPlayed, membersOf, K1, K2, K3, K4, K5, K6, K7, K8, K9, K10}
-use Rattle.orm.specs.Meaning.{Rows}
-use Rattle.orm.specs.Outcome.{accepted}
-use Rattle.orm.specs.Calls.{populationIn}
-use Rattle.table.specs.Positions.{predOf, predsIn, diagramOf}
-use Rattle.table.specs.Valid.{Valid}
 use Rattle.columns.specs.Values.{occurring}
-use Rattle.blocks.specs.Blocks.{predWidth, rowsAt, rowsIn, populationAt}
-use Rattle.playing.specs.Playing.{populationOf}
 use Rattle.constraints.specs.declared.Verdict.{Verdict}
 use Rattle.constraints.specs.declared.Verdict.the-variants as verdicts
 
@@ -88,24 +78,6 @@ groupsTest g (f ∷ fs) rs rows = groupTest g f rs rows && groupsTest (suc g) fs
 abbrev pub pushed : Bool → List ℕ → ℕ → List ℕ
 pushed true l j = l ++ j ∷ []
 pushed false l j = l
-
--- ---- by positions
-
--- The predicate at `pred` of the table has few roles, and its rows at `at` of the cells a cell for each
-pub record PredHere (t s : List ℕ) (pred at : ℕ) : Type 0 where
-  pub few : predWidth (predOf (drop pred t)) ≤ 6
-  pub wide : Each (λ (row : List ℕ). length row ≡ predWidth (predOf (drop pred t))) (rowsAt (predWidth (predOf (drop pred t))) (drop at s))
-  pub near : pred ≤ 200000000
-
--- The `n` predicates from `pred` of the table on have few roles, and their rows, from `at` of the cells on, a cell for each
-pub record Standing (t s : List ℕ) (pred at n : ℕ) : Type 0 where
-  pub few : Each (λ (p : Predicate). predWidth p ≤ 6) (predsIn n (drop pred t))
-  pub wide : Each2 Rows (predsIn n (drop pred t)) (rowsIn (predsIn n (drop pred t)) (drop at s))
-
--- A valid table, and cells that are cut whole
-pub record Populated (t s : List ℕ) : Type 0 where
-  pub valid : Valid t
-  pub whole : populationIn (diagramOf t) s ≡ accepted (populationOf t s)
 
 -- ---- the lowest number, and the lowest constraint
 

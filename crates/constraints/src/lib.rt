@@ -13,10 +13,12 @@ ghost use Rattle.orm.specs.Sets.{rolesInGroup};
 ghost use Rattle.orm.specs.Constraints.{K1, K2, K3, K4, K5, K6, K7, K8, K9, K10, eachType, eachPred, firstFalse, membersOf, answer};
 ghost use Rattle.table.specs.Positions.{diagramOf, predOf, Walkable};
 ghost use Rattle.columns.specs.Values.{valuesIn};
+ghost use Rattle.columns.specs.Reach.{Reached};
 ghost use Rattle.blocks.specs.Blocks.{membersAt, rowsAt, predWidth};
+ghost use Rattle.blocks.specs.Standing.{PredHere, Populated};
 ghost use Rattle.playing.specs.Playing.{populationOf, predAt, rowsHere};
 ghost use Rattle.constraints.specs.Tests.{typeTest, predTest, filled, roleTest, rolesTest, groupTest, groupsTest};
-ghost use Rattle.constraints.specs.Tests.{PredHere, Populated, numberIn, ofTypes, kept, pushed, answerOf};
+ghost use Rattle.constraints.specs.Tests.{numberIn, ofTypes, kept, pushed, answerOf};
 
 // The lowest broken constraint with the lowest number that breaks it.
 pub enum Verdict {
@@ -102,6 +104,7 @@ fn pred_size(t: &[u32], cells: &[u32], pred: usize, at: usize) -> bool
 // K7 of the role at `role` with the column `values`: they belong to its type.
 fn role_within(t: &[u32], cells: &[u32], role: usize, values: Column) -> bool
     requires { ⌜ Walkable (now t) ⌝ }
+    requires { ⌜ Reached (now cells) values ⌝ }
     ensures { λ r. ⌜ r ≡ within eqb (valuesIn (now (cells .entry)) values) (membersOf (populationOf (now (t .entry)) (now (cells .entry))) (roleOf (drop role (now (t .entry))) .type)) ⌝ }
 {
     order::within(
@@ -114,6 +117,7 @@ fn role_within(t: &[u32], cells: &[u32], role: usize, values: Column) -> bool
 // K8 of it: where it is mandatory, every member of its type is there.
 fn role_filled(t: &[u32], cells: &[u32], role: usize, values: Column) -> bool
     requires { ⌜ Walkable (now t) ⌝ }
+    requires { ⌜ Reached (now cells) values ⌝ }
     ensures { λ r. ⌜ r ≡ filled (populationOf (now (t .entry)) (now (cells .entry))) (roleOf (drop role (now (t .entry)))) (valuesIn (now (cells .entry)) values) ⌝ }
 {
     if table::field(t, role, 1) != 1 {
@@ -128,6 +132,7 @@ fn role_filled(t: &[u32], cells: &[u32], role: usize, values: Column) -> bool
 
 fn role_keeps(k: u32, t: &[u32], cells: &[u32], role: usize, values: Column) -> bool
     requires { ⌜ Walkable (now t) ⌝ }
+    requires { ⌜ Reached (now cells) values ⌝ }
     ensures { λ r. ⌜ r ≡ roleTest k (populationOf (now (t .entry)) (now (cells .entry))) (roleOf (drop role (now (t .entry)))) (valuesIn (now (cells .entry)) values) ⌝ }
 {
     match k {
@@ -255,6 +260,7 @@ fn pred_keeps(k: u32, t: &[u32], cells: &[u32], pred: usize, at: usize) -> bool
 // K10: of a type that is not independent, each member is in a role that the type plays.
 fn members_play(t: &[u32], cells: &[u32], ty: usize, at: usize, number: u32) -> bool
     requires { ⌜ Walkable (now t) ⌝ }
+    requires { ⌜ Populated (now t) (now cells) ⌝ }
     ensures { λ r. ⌜ r ≡ K10 (diagramOf (now (t .entry))) (populationOf (now (t .entry)) (now (cells .entry))) number (typeOf (drop ty (now (t .entry)))) (membersAt (drop at (now (cells .entry)))) ⌝ }
 {
     if table::field(t, ty, 5) == 1 {
@@ -266,6 +272,7 @@ fn members_play(t: &[u32], cells: &[u32], ty: usize, at: usize, number: u32) -> 
 // Constraint k of the type with this number.
 fn type_keeps(k: u32, t: &[u32], cells: &[u32], ty: usize, at: usize, number: u32) -> bool
     requires { ⌜ Walkable (now t) ⌝ }
+    requires { ⌜ Populated (now t) (now cells) ⌝ }
     ensures { λ r. ⌜ r ≡ typeTest k (diagramOf (now (t .entry))) (populationOf (now (t .entry)) (now (cells .entry))) number (typeOf (drop ty (now (t .entry)))) (membersAt (drop at (now (cells .entry)))) ⌝ }
 {
     match k {
@@ -282,6 +289,7 @@ fn type_keeps(k: u32, t: &[u32], cells: &[u32], ty: usize, at: usize, number: u3
 // The lowest type that breaks constraint k; 0 where none does.
 fn first_type(k: u32, t: &[u32], cells: &[u32]) -> u32
     requires { ⌜ Walkable (now t) ⌝ }
+    requires { ⌜ Populated (now t) (now cells) ⌝ }
     ensures { λ r. ⌜ r ≡ numberIn (firstFalse 1 (eachType (typeTest k (diagramOf (now (t .entry))) (populationOf (now (t .entry)) (now (cells .entry)))) 1 (diagramOf (now (t .entry)) .types) (populationOf (now (t .entry)) (now (cells .entry)) .types))) ⌝ }
 {
     let mut ty: usize = 2;

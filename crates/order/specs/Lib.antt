@@ -1,4 +1,5 @@
 pub mod Rows
+pub mod Numbers
 pub mod Merge
 pub mod Values
 pub mod Parts

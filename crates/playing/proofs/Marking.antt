@@ -244,10 +244,10 @@ unfolding marked among
 all-play t s number vs marks marks′ u n e =
     e ∙ all-within vs marks′ vs (players t s number) (λ x m. n .each x m ∙ rw (u .none (placeOf x vs)))
 
-pub ready : (s : List ℕ) (c : Column) (list marks : List ℕ) → Sortable c → Listed s c list → Unmarked marks (c .count) → Ready s c list marks
+pub ready : (s : List ℕ) (c : Column) (list marks : List ℕ) → Sortable s c → Listed s c list → Unmarked marks (c .count) → Ready s c list marks
 ready s c list marks a l u = record { sortable = a; listed = l; long = u .long }
 
-pub ready-after : (s : List ℕ) (c : Column) (list marks marks′ : List ℕ) → Sortable c → Listed s c list → Unmarked marks (c .count)
+pub ready-after : (s : List ℕ) (c : Column) (list marks marks′ : List ℕ) → Sortable s c → Listed s c list → Unmarked marks (c .count)
     → length marks′ ≡ length marks → Ready s c list marks′
 ready-after s c list marks marks′ a l u e = record { sortable = a; listed = l; long = e ∙ u .long }
 

@@ -11,13 +11,16 @@ ghost use Rattle.counting.specs.Distinct.{member, within};
 ghost use Rattle.orm.specs.Form.{roleOf};
 ghost use Rattle.table.specs.Positions.{Walkable};
 ghost use Rattle.columns.specs.Values.{valuesIn};
+ghost use Rattle.columns.specs.Reach.{Reached};
 ghost use Rattle.order.specs.Values.{Sortable};
+ghost use Rattle.blocks.specs.Standing.{PredHere, Populated};
 ghost use Rattle.playing.specs.Playing.{inRole, inRoles, predAt, rowsHere, players};
 ghost use Rattle.playing.specs.Marks.{marked, allMarked, Ready, Unmarked, Noted, equalTo, among, amongRole, amongRoles};
 
 // x stands in the role at `role`, with the column `values`, and the type with this number plays it.
 fn in_role(t: &[u32], cells: &[u32], x: u32, number: u32, role: usize, values: Column) -> bool
     requires { ⌜ Walkable (now t) ⌝ }
+    requires { ⌜ Reached (now cells) values ⌝ }
     ensures { λ r. ⌜ r ≡ inRole x number (roleOf (drop role (now (t .entry)))) (valuesIn (now (cells .entry)) values) ⌝ }
 {
     let player = table::field(t, role, 0);
@@ -30,7 +33,7 @@ fn in_role(t: &[u32], cells: &[u32], x: u32, number: u32, role: usize, values: C
 // x stands in a role of the predicate that the type with this number plays.
 fn in_roles(t: &[u32], cells: &[u32], x: u32, number: u32, pred: usize, at: usize) -> bool
     requires { ⌜ Walkable (now t) ⌝ }
-    requires { ⌜ pred ≤ 200000000 ⌝ }
+    requires { ⌜ PredHere (now t) (now cells) pred at ⌝ }
     ensures { λ r. ⌜ r ≡ inRoles x number 0 (predAt (now (t .entry)) pred .roles) (rowsHere (now (t .entry)) (now (cells .entry)) pred at) ⌝ }
 {
     let w = blocks::width(t, pred);
@@ -51,6 +54,7 @@ fn in_roles(t: &[u32], cells: &[u32], x: u32, number: u32, pred: usize, at: usiz
 // x stands in a role that the type with this number plays.
 fn in_preds(t: &[u32], cells: &[u32], x: u32, number: u32) -> bool
     requires { ⌜ Walkable (now t) ⌝ }
+    requires { ⌜ Populated (now t) (now cells) ⌝ }
     ensures { λ r. ⌜ r ≡ member eqb x (players (now (t .entry)) (now (cells .entry)) number) ⌝ }
 {
     let mut pred = table::first_pred(t);
@@ -70,15 +74,17 @@ fn in_preds(t: &[u32], cells: &[u32], x: u32, number: u32) -> bool
 // Every value of the column does.
 fn all_play(t: &[u32], cells: &[u32], column: Column, number: u32) -> bool
     requires { ⌜ Walkable (now t) ⌝ }
+    requires { ⌜ Populated (now t) (now cells) ⌝ }
+    requires { ⌜ Reached (now cells) column ⌝ }
     ensures { λ r. ⌜ r ≡ within eqb (valuesIn (now (cells .entry)) column) (players (now (t .entry)) (now (cells .entry)) number) ⌝ }
 {
     let mut at = column.start;
     let mut left = column.count;
     while 0 < left {
-        if !in_preds(t, cells, columns::cell(cells, at, 0), number) {
+        if !in_preds(t, cells, columns::value_at(cells, at), number) {
             return false;
         }
-        at = columns::next(cells, at, column.step);
+        at += column.step;
         left -= 1;
     }
     true
@@ -100,6 +106,7 @@ fn mark(cells: &[u32], members: Column, list: &[u32], x: u32, marks: &mut [u32])
 // The members in the column `values` are marked.
 fn mark_values(cells: &[u32], values: Column, members: Column, list: &[u32], marks: &mut [u32])
     requires { ⌜ Ready (now cells) members (now list) (now marks) ⌝ }
+    requires { ⌜ Reached (now cells) values ⌝ }
     ensures { λ _.
         ⌜ Noted (valuesIn (now (cells .entry)) members) (now (marks .entry)) (now (marks .exit))
         (among (valuesIn (now (cells .entry)) values)) ⌝ }
@@ -107,8 +114,8 @@ fn mark_values(cells: &[u32], values: Column, members: Column, list: &[u32], mar
     let mut at = values.start;
     let mut left = values.count;
     while 0 < left {
-        mark(cells, members, list, columns::cell(cells, at, 0), marks);
-        at = columns::next(cells, at, values.step);
+        mark(cells, members, list, columns::value_at(cells, at), marks);
+        at += values.step;
         left -= 1;
     }
 }
@@ -126,6 +133,7 @@ fn mark_role(
 )
     requires { ⌜ Walkable (now t) ⌝ }
     requires { ⌜ Ready (now cells) members (now list) (now marks) ⌝ }
+    requires { ⌜ Reached (now cells) values ⌝ }
     ensures { λ _.
         ⌜ Noted (valuesIn (now (cells .entry)) members) (now (marks .entry)) (now (marks .exit))
         (amongRole number (roleOf (drop role (now (t .entry)))) (valuesIn (now (cells .entry)) values)) ⌝ }
@@ -149,7 +157,7 @@ fn mark_roles(
 )
     requires { ⌜ Walkable (now t) ⌝ }
     requires { ⌜ Ready (now cells) members (now list) (now marks) ⌝ }
-    requires { ⌜ pred ≤ 200000000 ⌝ }
+    requires { ⌜ PredHere (now t) (now cells) pred at ⌝ }
     ensures { λ _.
         ⌜ Noted (valuesIn (now (cells .entry)) members) (now (marks .entry)) (now (marks .exit))
         (amongRoles number 0 (predAt (now (t .entry)) pred .roles) (rowsHere (now (t .entry)) (now (cells .entry)) pred at)) ⌝ }
@@ -186,6 +194,7 @@ fn mark_preds(
 )
     requires { ⌜ Walkable (now t) ⌝ }
     requires { ⌜ Ready (now cells) members (now list) (now marks) ⌝ }
+    requires { ⌜ Populated (now t) (now cells) ⌝ }
     ensures { λ _.
         ⌜ Noted (valuesIn (now (cells .entry)) members) (now (marks .entry)) (now (marks .exit))
         (among (players (now (t .entry)) (now (cells .entry)) number)) ⌝ }
@@ -221,10 +230,10 @@ fn all_marked(cells: &[u32], members: Column, list: &[u32], marks: &[u32]) -> bo
     let mut at = members.start;
     let mut left = members.count;
     while 0 < left {
-        if !is_marked(cells, members, list, columns::cell(cells, at, 0), marks) {
+        if !is_marked(cells, members, list, columns::value_at(cells, at), marks) {
             return false;
         }
-        at = columns::next(cells, at, members.step);
+        at += members.step;
         left -= 1;
     }
     true
@@ -240,9 +249,10 @@ fn all_play_by(
     marks: &mut [u32],
 ) -> bool
     requires { ⌜ Walkable (now t) ⌝ }
-    requires { ⌜ Sortable members ⌝ }
+    requires { ⌜ Sortable (now cells) members ⌝ }
     requires { ⌜ length (now list) ≡ members .count ⌝ }
     requires { ⌜ Unmarked (now marks) (members .count) ⌝ }
+    requires { ⌜ Populated (now t) (now cells) ⌝ }
     ensures { λ r. ⌜ r ≡ within eqb (valuesIn (now (cells .entry)) members) (players (now (t .entry)) (now (cells .entry)) number) ⌝ }
 {
     order::sort_values(cells, members, list);
@@ -252,7 +262,8 @@ fn all_play_by(
 
 fn all_play_sorted(t: &[u32], cells: &[u32], members: Column, number: u32) -> bool
     requires { ⌜ Walkable (now t) ⌝ }
-    requires { ⌜ Sortable members ⌝ }
+    requires { ⌜ Sortable (now cells) members ⌝ }
+    requires { ⌜ Populated (now t) (now cells) ⌝ }
     ensures { λ r. ⌜ r ≡ within eqb (valuesIn (now (cells .entry)) members) (players (now (t .entry)) (now (cells .entry)) number) ⌝ }
 {
     let mut list = order::scratch();
@@ -264,6 +275,8 @@ fn all_play_sorted(t: &[u32], cells: &[u32], members: Column, number: u32) -> bo
 // Every value of the column stands in a role that the type with this number plays.
 pub fn all_in_preds(t: &[u32], cells: &[u32], column: Column, number: u32) -> bool
     requires { ⌜ Walkable (now t) ⌝ }
+    requires { ⌜ Populated (now t) (now cells) ⌝ }
+    requires { ⌜ Reached (now cells) column ⌝ }
     ensures { λ r. ⌜ r ≡ within eqb (valuesIn (now (cells .entry)) column) (players (now (t .entry)) (now (cells .entry)) number) ⌝ }
 {
     if order::is_sortable(column) {

@@ -6,22 +6,33 @@ use mathlib.Core.Path.{_≡_, refl, sym, ap, subst, _∙_}
 use mathlib.Core.Bool.{Bool, true, false, _||_, _&&_, not}
 use mathlib.Core.List.{List, [], _∷_, map}
 use lib.ListN.{length, getD, take, drop, drop-of-length-le}
-use lib.Seq.{drop-cons}
+use lib.Seq.{drop-cons, drop-drop}
 use borrow.Author.Tests.{not-true, not-false}
 use Rattle.counting.specs.Lists.{same, combination}
 use Rattle.counting.specs.Laws.Instances.{same-decides}
 use Rattle.sorting.specs.Runs.{runsFrom, runs}
 use Rattle.orm.specs.Form.{_to_, inRange}
 use Rattle.columns.specs.declared.Rows.{Rows}
-use Rattle.order.specs.Rows.{keyOf}
+use Rattle.columns.specs.Reach.{Keyed}
+use Rattle.order.specs.Rows.{keyOf, rowOrder}
+use Rattle.order.specs.Numbers.{Numbers, numbers-at, numbers-sorted}
 use Rattle.runs.specs.Runs.{runsBetween, runAfter}
 
 pub same-rows : (s : List ℕ) (r : Rows) (js : List ℕ) (x y a b : ℕ) {t : Bool}
-    → drop a s ≡ drop (x * r .width) (drop (r .start) s) → drop b s ≡ drop (y * r .width) (drop (r .start) s)
+    → a ≡ r .start + x * r .width → b ≡ r .start + y * r .width
     → t ≡ same (combination js (take (r .width) (drop a s))) (combination js (take (r .width) (drop b s)))
     → t ≡ same (keyOf s r js x) (keyOf s r js y)
 unfolding keyOf
-same-rows s r js x y a b p q e = rw (p, q) at e
+same-rows s r js x y a b p q e = rw (drop-drop (x * r .width) (r .start) s, drop-drop (y * r .width) (r .start) s, ← p, ← q) e
+
+-- ---- row numbers in the list
+
+module _ (s : List ℕ) (rows : Rows) (js list : List ℕ) where
+  pub first-below : {x : ℕ} → Numbers s rows js list → ¬ (length list ≡ 0) → x ≡ getD list 0 0 → x < rows .count
+  first-below h n e = numbers-at s rows js list 0 h (omega arith) e
+
+  pub all-numbers : (n : ℕ) → Keyed s rows js → n ≡ rows .count → list ≡ rowOrder s rows js n → Numbers s rows js list
+  all-numbers n k h e = numbers-sorted s rows js list n k (omega arith) e
 
 pub run-on : (b c : Bool) → b ≡ true → true ≡ b || c
 run-on b c e = rw e

@@ -11,12 +11,16 @@ ghost use Rattle.counting.specs.Distinct.{allDiffer};
 ghost use Rattle.orm.specs.Form.{inRange, _to_};
 ghost use Rattle.columns.specs.Values.{valuesIn, keysIn, occurring};
 ghost use Rattle.columns.specs.Differ.{Wide, rowsHeld};
+ghost use Rattle.columns.specs.Reach.{Keyed, Reached};
 ghost use Rattle.order.specs.Rows.{keyOf};
+ghost use Rattle.order.specs.Numbers.{Numbers};
 ghost use Rattle.runs.specs.Runs.{runsBetween, runAfter};
 
 // Rows x and y hold the same in the columns `js`.
 fn same_rows(s: &[u32], rows: Rows, js: &[u32], x: u32, y: u32) -> bool
-    requires { ⌜ rows .width ≤ 4096 ⌝ }
+    requires { ⌜ Keyed (now s) rows (now js) ⌝ }
+    requires { ⌜ x < rows .count ⌝ }
+    requires { ⌜ y < rows .count ⌝ }
     ensures { λ r. ⌜ r ≡ same (keyOf (now (s .entry)) rows (now (js .entry)) x) (keyOf (now (s .entry)) rows (now (js .entry)) y) ⌝ }
 {
     let a = order::row_at(s, rows, x);
@@ -48,7 +52,7 @@ fn run_after(on: bool, len: usize) -> usize
 
 // The runs of equal rows in the list are `low` to `high` long.
 fn runs_between(s: &[u32], rows: Rows, js: &[u32], list: &[u32], low: u32, high: u32) -> bool
-    requires { ⌜ rows .width ≤ 4096 ⌝ }
+    requires { ⌜ Numbers (now s) rows (now js) (now list) ⌝ }
     requires { ⌜ length (now list) ≤ 4096 ⌝ }
     ensures { λ r. ⌜ r ≡ runsBetween low high (now (s .entry)) rows (now (js .entry)) (now (list .entry)) ⌝ }
 {
@@ -73,7 +77,7 @@ fn runs_between(s: &[u32], rows: Rows, js: &[u32], list: &[u32], low: u32, high:
 
 // The rows are put in order, in a list that is as long as there are rows.
 fn occurring_by(s: &[u32], rows: Rows, js: &[u32], low: u32, high: u32, list: &mut [u32]) -> bool
-    requires { ⌜ rows .width ≤ 4096 ⌝ }
+    requires { ⌜ Keyed (now s) rows (now js) ⌝ }
     requires { ⌜ length (now list) ≤ 4096 ⌝ }
     requires { ⌜ length (now list) ≡ rows .count ⌝ }
     ensures { λ r. ⌜ r ≡ occurring low high (keysIn (now (s .entry)) rows (now (js .entry))) (keysIn (now (s .entry)) rows (now (js .entry))) ⌝ }
@@ -83,7 +87,7 @@ fn occurring_by(s: &[u32], rows: Rows, js: &[u32], low: u32, high: u32, list: &m
 }
 
 fn occurring_sorted(s: &[u32], rows: Rows, js: &[u32], low: u32, high: u32) -> bool
-    requires { ⌜ rows .width ≤ 4096 ⌝ }
+    requires { ⌜ Keyed (now s) rows (now js) ⌝ }
     requires { ⌜ rows .count ≤ 4096 ⌝ }
     ensures { λ r. ⌜ r ≡ occurring low high (keysIn (now (s .entry)) rows (now (js .entry))) (keysIn (now (s .entry)) rows (now (js .entry))) ⌝ }
 {
@@ -94,11 +98,9 @@ fn occurring_sorted(s: &[u32], rows: Rows, js: &[u32], low: u32, high: u32) -> b
 
 // What each row holds in the columns `js`, `low` to `high` rows hold.
 pub fn occurring(s: &[u32], rows: Rows, js: &[u32], low: u32, high: u32) -> bool
+    requires { ⌜ Keyed (now s) rows (now js) ⌝ }
     ensures { λ r. ⌜ r ≡ occurring low high (keysIn (now (s .entry)) rows (now (js .entry))) (keysIn (now (s .entry)) rows (now (js .entry))) ⌝ }
 {
-    if 4096 < rows.width {
-        return columns::occurring(s, rows, js, low, high);
-    }
     if 4096 < rows.count {
         return columns::occurring(s, rows, js, low, high);
     }
@@ -111,6 +113,7 @@ pub fn occurring(s: &[u32], rows: Rows, js: &[u32], low: u32, high: u32) -> bool
 // The rows differ.
 pub fn rows_differ(s: &[u32], rows: Rows) -> bool
     requires { ⌜ rows .width ≤ 6 ⌝ }
+    requires { ⌜ rows .start ≤ length (now s) ⌝ }
     requires { ⌜ Wide (rows .width) (rowsHeld (now s) rows) ⌝ }
     ensures { λ r. ⌜ r ≡ allDiffer same (rowsHeld (now (s .entry)) rows) ⌝ }
 {
@@ -121,7 +124,7 @@ pub fn rows_differ(s: &[u32], rows: Rows) -> bool
 
 // The values of the column differ.
 pub fn differ(s: &[u32], column: Column) -> bool
-    requires { ⌜ 0 < column .step ⌝ }
+    requires { ⌜ Reached (now s) column ⌝ }
     ensures { λ r. ⌜ r ≡ allDiffer eqb (valuesIn (now (s .entry)) column) ⌝ }
 {
     let js = [0u32];

@@ -20,7 +20,8 @@ use Rattle.reader.specs.declared.FormAnswer.the-variants as forms
 use Rattle.blocks.specs.Blocks.{extentOf, populationAt}
 use Rattle.blocks.specs.declared.Extent.{Extent}
 use Rattle.blocks.specs.declared.Extent.the-variants.{Whole, Broken}
-use Rattle.constraints.specs.Tests.{Populated, answerOf}
+use Rattle.blocks.specs.Standing.{Populated}
+use Rattle.constraints.specs.Tests.{answerOf}
 use Rattle.playing.specs.Playing.{populationOf}
 use Rattle.constraints.specs.declared.Verdict.{Verdict}
 use Rattle.constraints.specs.declared.Verdict.the-variants as verdicts

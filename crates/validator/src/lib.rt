@@ -8,7 +8,7 @@ ghost use mathlib.Core.Path.{_≡_};
 ghost use Rattle.orm.specs.Calls.{validateCall};
 ghost use Rattle.table.specs.Valid.{Valid};
 ghost use Rattle.table.specs.Positions.{Walkable};
-ghost use Rattle.constraints.specs.Tests.{Populated};
+ghost use Rattle.blocks.specs.Standing.{Populated};
 ghost use Rattle.validator.specs.Outcomes.{validateOf};
 
 // Valid, the lowest broken constraint with the lowest type or predicate that breaks it, or a refusal: 1 to 6 of the table

@@ -13,4 +13,4 @@ next-spec =
     (λ c. search needs)
     (λ c. search (needs, next-behind))
     (λ c. search needs)
-    (λ c. search (needs, next-here)))
+    (λ c. (search (needs, next-here), (search needs, search needs))))

@@ -2,6 +2,7 @@
 -- Assumes nothing.
 use Prim.Native.Nat.{_≤_, _-_}
 use lib.ListN.{length, take, drop}
+use Rattle.columns.specs.Reach.{held-narrow, held-inside}
 use Rattle.columns.proofs.Keys.{SameFrom, keys-end, keys-not, keys-same}
 use borrow.Author.Needs.{needs}
 use Rattle.columns.proofs.same_key.Statement.{statement}
@@ -23,8 +24,8 @@ same-key-spec =
     (λ c. search needs)
     (λ c. search needs)
     (λ c κs. search needs)
-    (λ c κs. search needs)
-    (λ c κs. search needs)
+    (λ c κs. search (needs, held-narrow, held-inside))
+    (λ c κs. search (needs, held-narrow, held-inside))
     (λ c. search (needs, keys-not))
     (λ c. search needs)
     (λ c. search needs)

@@ -3,8 +3,9 @@
 use Prim.Native.Nat.{_+_, _*_, _≤_}
 use Rattle.orm.specs.Constraints.{eachPred, firstFalse}
 use Rattle.table.specs.Positions.{diagramOf}
-use Rattle.constraints.specs.Tests.{predTest, Standing}
-use Rattle.constraints.proofs.Lowest.{PredsLeft, preds-start, preds-none-broken, preds-here, preds-next, standing-start, standing-here, standing-more}
+use Rattle.blocks.specs.Standing.{Standing, standing-start, standing-here, standing-more}
+use Rattle.constraints.specs.Tests.{predTest}
+use Rattle.constraints.proofs.Lowest.{PredsLeft, preds-start, preds-none-broken, preds-here, preds-next}
 use Rattle.playing.specs.Playing.{populationOf}
 use borrow.Author.Needs.{needs}
 use Rattle.constraints.proofs.first_pred.Statement.{statement}

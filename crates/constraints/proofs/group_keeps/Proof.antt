@@ -1,6 +1,6 @@
 -- `constraints::group_keeps` meets its contract. The keys are the combinations in the group's columns.
 -- Assumes nothing.
-use Rattle.constraints.proofs.Groups.{part-count, k9-group}
+use Rattle.constraints.proofs.Groups.{part-count, group-keyed, k9-group}
 use borrow.Author.Needs.{needs}
 use Rattle.constraints.proofs.group_keeps.Statement.{statement}
 use Rattle.constraints.proofs.group_keeps.Tie as tie
@@ -18,5 +18,5 @@ group-keeps-spec =
     (λ c. search (needs, part-count))
     (λ c κs. search needs)
     (λ c κs. search needs)
-    (λ c κs. search needs)
+    (λ c κs. search (needs, group-keyed))
     (λ c. search (needs, k9-group)))

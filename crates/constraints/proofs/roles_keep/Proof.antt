@@ -5,6 +5,7 @@ use mathlib.Core.Path.{_≡_}
 use lib.ListN.{drop}
 use Rattle.table.specs.Positions.{predOf}
 use Rattle.blocks.specs.Blocks.{predWidth, rowsAt}
+use Rattle.blocks.specs.Standing.{column-reached}
 use Rattle.constraints.specs.Tests.{rolesTest}
 use Rattle.constraints.proofs.Preds.{RolesLeft, roles-begin, roles-none, roles-not, roles-more}
 use Rattle.playing.specs.Playing.{populationOf}
@@ -31,7 +32,7 @@ roles-keep-spec =
     (λ c. search needs)
     (λ c. search (needs, roles-begin))
     (λ c κs. search needs)
-    (λ c κs. search needs)
+    (λ c κs. search (needs, column-reached))
     (λ c. search (needs, roles-not))
     (λ c. search needs)
     (λ c. search needs)

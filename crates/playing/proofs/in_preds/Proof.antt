@@ -4,6 +4,7 @@ use Prim.Native.Nat.{_+_, _*_, _≤_}
 use lib.Dec.{eqb}
 use Rattle.counting.specs.Distinct.{member}
 use Rattle.table.specs.Positions.{diagramOf}
+use Rattle.blocks.specs.Standing.{Standing, standing-start, standing-here, standing-more}
 use Rattle.playing.specs.Playing.{playedBy, populationOf}
 use Rattle.playing.proofs.Searched.{InPredsLeft, in-preds-start, in-preds-none, in-preds-here, in-preds-more}
 use borrow.Author.Needs.{needs}
@@ -11,9 +12,7 @@ use Rattle.playing.proofs.in_preds.Statement.{statement}
 use Rattle.playing.proofs.in_preds.Tie as tie
 
 abbrev Inv-loop : tie.InvT-loop
-Inv-loop t cells x number pred₀ at₀ left₀ pred at left =
-    (pred + 5000000 * left ≤ 200000000)
-    × InPredsLeft t cells x number (member eqb x (playedBy (diagramOf t) (populationOf t cells) number)) pred at left
+Inv-loop t cells x number pred₀ at₀ left₀ pred at left = (pred + 5000000 * left ≤ 200000000) × Standing t cells pred at left × InPredsLeft t cells x number (member eqb x (playedBy (diagramOf t) (populationOf t cells) number)) pred at left
 
 abbrev μ-loop : tie.MeasureT-loop
 μ-loop t cells x number pred₀ at₀ left₀ pred at left = left
@@ -27,13 +26,13 @@ in-preds-spec =
     (λ c κs. search needs)
     (λ c κs. search needs)
     (λ c κs. search needs)
-    (λ c. search (needs, in-preds-start))
-    (λ c κs. search needs)
+    (λ c. search (needs, in-preds-start, standing-start))
+    (λ c κs. search (needs, standing-here))
     (λ c. search (needs, in-preds-here))
     (λ c κs. search needs)
     (λ c κs. search needs)
     (λ c κs. search needs)
     (λ c. search needs)
     (λ c. search needs)
-    (λ c. search (needs, in-preds-more))
+    (λ c. search (needs, in-preds-more, standing-more))
     (λ c. search (needs, in-preds-none)))

@@ -5,6 +5,7 @@ use mathlib.Core.Path.{_≡_}
 use lib.ListN.{drop}
 use Rattle.table.specs.Positions.{predOf}
 use Rattle.blocks.specs.Blocks.{predWidth, rowsAt}
+use Rattle.blocks.specs.Standing.{column-reached}
 use Rattle.playing.specs.Playing.{inRoles}
 use Rattle.playing.proofs.Searched.{InRolesLeft, in-roles-start, in-roles-none, in-roles-here, in-roles-more}
 use borrow.Author.Needs.{needs}
@@ -12,11 +13,7 @@ use Rattle.playing.proofs.in_roles.Statement.{statement}
 use Rattle.playing.proofs.in_roles.Tie as tie
 
 abbrev Inv-loop : tie.InvT-loop
-Inv-loop t cells x number pred at w role₀ j₀ left₀ role j left =
-    (j + left ≡ w)
-    × (role + 3 * left ≤ 300000000)
-    × InRolesLeft t cells x number (predWidth (predOf (drop pred t))) at (inRoles x number 0 (predOf (drop pred t) .roles) (rowsAt (predWidth
-    (predOf (drop pred t))) (drop at cells))) role j left
+Inv-loop t cells x number pred at w role₀ j₀ left₀ role j left = (j + left ≡ w) × (role + 3 * left ≤ 300000000) × InRolesLeft t cells x number (predWidth (predOf (drop pred t))) at (inRoles x number 0 (predOf (drop pred t) .roles) (rowsAt (predWidth (predOf (drop pred t))) (drop at cells))) role j left
 
 abbrev μ-loop : tie.MeasureT-loop
 μ-loop t cells x number pred at w role₀ j₀ left₀ role j left = left
@@ -31,7 +28,7 @@ in-roles-spec =
     (λ c. search needs)
     (λ c. search (needs, in-roles-start))
     (λ c κs. search needs)
-    (λ c κs. search needs)
+    (λ c κs. search (needs, column-reached))
     (λ c. search (needs, in-roles-here))
     (λ c. search needs)
     (λ c. search needs)

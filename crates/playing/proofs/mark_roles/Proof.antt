@@ -3,6 +3,7 @@
 use Prim.Native.Nat.{_+_, _*_, _≤_}
 use mathlib.Core.Path.{_≡_}
 use Rattle.columns.specs.Values.{valuesIn}
+use Rattle.blocks.specs.Standing.{column-reached}
 use Rattle.playing.specs.Marks.{Ready}
 use Rattle.playing.proofs.Marking.{RolesLeft, still-ready, same-ready, roles-start, roles-more, roles-marked}
 use borrow.Author.Needs.{needs}
@@ -10,9 +11,7 @@ use Rattle.playing.proofs.mark_roles.Statement.{statement}
 use Rattle.playing.proofs.mark_roles.Tie as tie
 
 abbrev Inv-loop : tie.InvT-loop
-Inv-loop t cells number pred at members list marks₀ w role₀ j₀ left₀ marks role j left = (j + left ≡ w) ×
-    (role + 3 * left ≤ 300000000) × Ready cells members list marks × RolesLeft
-    (valuesIn cells members) marks₀ marks t cells number pred at role j left
+Inv-loop t cells number pred at members list marks₀ w role₀ j₀ left₀ marks role j left = (j + left ≡ w) × (role + 3 * left ≤ 300000000) × Ready cells members list marks × RolesLeft (valuesIn cells members) marks₀ marks t cells number pred at role j left
 
 abbrev μ-loop : tie.MeasureT-loop
 μ-loop t cells number pred at members list marks₀ w role₀ j₀ left₀ marks role j left = left
@@ -27,7 +26,7 @@ mark-roles-spec =
     (λ c. search needs)
     (λ c. search (needs, roles-start))
     (λ c κs. search needs)
-    (λ c κs. search needs)
+    (λ c κs. search (needs, column-reached))
     (λ c. search needs)
     (λ c. search needs)
     (λ c. search needs)

@@ -1,6 +1,7 @@
 -- `runs::differ` meets its contract. Values differ where each occurs once.
 -- Assumes nothing.
 use Rattle.columns.specs.Differ.{values-differ}
+use Rattle.columns.specs.Reach.{column-keyed}
 use borrow.Author.Needs.{needs}
 use Rattle.runs.proofs.differ.Statement.{statement}
 use Rattle.runs.proofs.differ.Tie as tie
@@ -10,5 +11,5 @@ differ-spec =
     tie.close
     (tie.spec
     (λ c. search needs)
-    (λ c κs. search needs)
+    (λ c κs. search (needs, column-keyed))
     (λ c. search (needs, values-differ)))

@@ -1,6 +1,7 @@
 -- `runs::rows_differ` meets its contract. Rows differ where each occurs once.
 -- Assumes nothing.
 use Rattle.columns.specs.Differ.{count-in-order, rows-differ}
+use Rattle.columns.specs.Reach.{all-keyed}
 use borrow.Author.Needs.{needs}
 use Rattle.runs.proofs.rows_differ.Statement.{statement}
 use Rattle.runs.proofs.rows_differ.Tie as tie
@@ -11,5 +12,5 @@ rows-differ-spec =
     (tie.spec
     (λ c. search needs)
     (λ c. search (needs, count-in-order))
-    (λ c κs. search needs)
+    (λ c κs. search (needs, all-keyed))
     (λ c. search (needs, rows-differ)))

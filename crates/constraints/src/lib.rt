@@ -74,11 +74,12 @@ fn within_super(t: &[u32], cells: &[u32], ty: usize, at: usize) -> bool
     if above == 0 {
         return true;
     }
-    order::within(
-        cells,
-        blocks::members(cells, at),
-        blocks::members_of(t, cells, above),
-    )
+    let members = blocks::members(cells, at);
+    let others = blocks::members_of(t, cells, above);
+    if order::is_sortable(others) {
+        return order::within_sorted(cells, members, others);
+    }
+    columns::within(cells, members, others)
 }
 
 // ---- of the predicate at `pred` in the table, with its block at `at` in the cells
@@ -107,11 +108,11 @@ fn role_within(t: &[u32], cells: &[u32], role: usize, values: Column) -> bool
     requires { ⌜ Reached (now cells) values ⌝ }
     ensures { λ r. ⌜ r ≡ within eqb (valuesIn (now (cells .entry)) values) (membersOf (populationOf (now (t .entry)) (now (cells .entry))) (roleOf (drop role (now (t .entry))) .type)) ⌝ }
 {
-    order::within(
-        cells,
-        values,
-        blocks::members_of(t, cells, table::field(t, role, 0)),
-    )
+    let members = blocks::members_of(t, cells, table::field(t, role, 0));
+    if order::is_sortable(members) {
+        return order::within_sorted(cells, values, members);
+    }
+    columns::within(cells, values, members)
 }
 
 // K8 of it: where it is mandatory, every member of its type is there.
@@ -123,11 +124,11 @@ fn role_filled(t: &[u32], cells: &[u32], role: usize, values: Column) -> bool
     if table::field(t, role, 1) != 1 {
         return true;
     }
-    order::within(
-        cells,
-        blocks::members_of(t, cells, table::field(t, role, 0)),
-        values,
-    )
+    let members = blocks::members_of(t, cells, table::field(t, role, 0));
+    if order::is_sortable(values) {
+        return order::within_sorted(cells, members, values);
+    }
+    columns::within(cells, members, values)
 }
 
 fn role_keeps(k: u32, t: &[u32], cells: &[u32], role: usize, values: Column) -> bool

@@ -5,9 +5,10 @@ use native.Mathlib.Omega.{arith}
 use mathlib.Core.Path.{_≡_, refl, sym, ap, subst, _∙_}
 use mathlib.Core.Bool.{Bool, true, false, _||_, _&&_, not}
 use mathlib.Core.List.{List, [], _∷_, map}
+use lib.Dec.{leb, ltb}
 use lib.ListN.{length, getD, take, drop, drop-of-length-le}
 use lib.Seq.{drop-cons, drop-drop}
-use borrow.Author.Tests.{not-true, not-false}
+use borrow.Author.Tests.{not-true, not-false, le-leb, lt-leb, ltb-false}
 use Rattle.counting.specs.Lists.{same, combination}
 use Rattle.counting.specs.Laws.Instances.{same-decides}
 use Rattle.sorting.specs.Runs.{runsFrom, runs}
@@ -16,7 +17,7 @@ use Rattle.columns.specs.declared.Rows.{Rows}
 use Rattle.columns.specs.Reach.{Keyed}
 use Rattle.order.specs.Rows.{keyOf, rowOrder}
 use Rattle.order.specs.Numbers.{Numbers, numbers-at, numbers-sorted}
-use Rattle.runs.specs.Runs.{runsBetween, runAfter}
+use Rattle.runs.specs.Runs.{runsBetween, runAfter, isCompared}
 
 pub same-rows : (s : List ℕ) (r : Rows) (js : List ℕ) (x y a b : ℕ) {t : Bool}
     → a ≡ r .start + x * r .width → b ≡ r .start + y * r .width
@@ -24,6 +25,25 @@ pub same-rows : (s : List ℕ) (r : Rows) (js : List ℕ) (x y a b : ℕ) {t : B
     → t ≡ same (keyOf s r js x) (keyOf s r js y)
 unfolding keyOf
 same-rows s r js x y a b p q e = rw (drop-drop (x * r .width) (r .start) s, drop-drop (y * r .width) (r .start) s, ← p, ← q) e
+
+-- ---- which rows are compared
+
+module _ (n : ℕ) where
+  pub compared-few : n ≤ 16 → true ≡ isCompared n
+  unfolding isCompared
+  compared-few h = rw (le-leb n 16 h)
+
+  pub compared-many : 16 < n → ltb 4096 n ≡ isCompared n
+  unfolding isCompared
+  compared-many h = rw (lt-leb n 16 h)
+
+  pub sorted-few : {b : Bool} → b ≡ isCompared n → b ≡ false → n ≤ 4096
+  unfolding isCompared
+  sorted-few e f = go (leb n 16) (sym e ∙ f)
+    where
+      go : (c : Bool) → (c || ltb 4096 n) ≡ false → n ≤ 4096
+      go true q = let z : _≡_ {A = ℕ} 0 1 = cc in absurd (omega arith)
+      go false q = ltb-false 4096 n q
 
 -- ---- row numbers in the list
 

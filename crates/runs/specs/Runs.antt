@@ -2,8 +2,9 @@
 use Prim.Native.Nat.{ℕ, zero, suc, _+_, _*_}
 use native.Mathlib.Nat.{suc-mul, zero-mul}
 use mathlib.Core.Path.{_≡_, refl, sym, ap, ap₂, _∙_}
-use mathlib.Core.Bool.{Bool, true, false}
+use mathlib.Core.Bool.{Bool, true, false, _||_}
 use mathlib.Core.List.{List, [], _∷_, map}
+use lib.Dec.{leb, ltb}
 use lib.ListN.{take, drop}
 use lib.Seq.{drop-drop}
 use Rattle.counting.specs.Lists.{same, combination, upFrom}
@@ -21,6 +22,10 @@ use Rattle.order.specs.Rows.{keyOf, rowLess, rowOrder}
 -- The runs of equal keys of the rows with the numbers `list` are `low` to `high` long
 unfoldable pub runsBetween : ℕ → ℕ → List ℕ → Rows → List ℕ → List ℕ → Bool
 runsBetween low high s rows js list = runs same (inRange (low to high)) (map (keyOf s rows js) list)
+
+-- Up to 16 rows, or more than 4,096
+unfoldable pub isCompared : ℕ → Bool
+isCompared n = leb n 16 || ltb 4096 n
 
 -- How long a run of n is after the next row: one more where it goes on, and one of its own where it does not
 unfoldable pub runAfter : Bool → ℕ → ℕ

@@ -14,7 +14,7 @@ ghost use Rattle.columns.specs.Differ.{Wide, rowsHeld};
 ghost use Rattle.columns.specs.Reach.{Keyed, Reached};
 ghost use Rattle.order.specs.Rows.{keyOf};
 ghost use Rattle.order.specs.Numbers.{Numbers};
-ghost use Rattle.runs.specs.Runs.{runsBetween, runAfter};
+ghost use Rattle.runs.specs.Runs.{runsBetween, runAfter, isCompared};
 
 // Rows x and y hold the same in the columns `js`.
 fn same_rows(s: &[u32], rows: Rows, js: &[u32], x: u32, y: u32) -> bool
@@ -96,15 +96,23 @@ fn occurring_sorted(s: &[u32], rows: Rows, js: &[u32], low: u32, high: u32) -> b
     occurring_by(s, rows, js, low, high, &mut list[..n])
 }
 
-// What each row holds in the columns `js`, `low` to `high` rows hold.
+// So many rows are compared with one another: up to 16 are not worth sorting, and there is no room to sort more than 4,096.
+fn is_compared(count: usize) -> bool
+    ensures { λ r. ⌜ r ≡ isCompared count ⌝ }
+{
+    if count <= 16 {
+        return true;
+    }
+    4096 < count
+}
+
+// What each row holds in the columns `js`, `low` to `high` rows hold. Here and below the test stands before the call, so that
+// few rows need no room for a list.
 pub fn occurring(s: &[u32], rows: Rows, js: &[u32], low: u32, high: u32) -> bool
     requires { ⌜ Keyed (now s) rows (now js) ⌝ }
     ensures { λ r. ⌜ r ≡ occurring low high (keysIn (now (s .entry)) rows (now (js .entry))) (keysIn (now (s .entry)) rows (now (js .entry))) ⌝ }
 {
-    if 4096 < rows.count {
-        return columns::occurring(s, rows, js, low, high);
-    }
-    if rows.count <= 16 {
+    if is_compared(rows.count) {
         return columns::occurring(s, rows, js, low, high);
     }
     occurring_sorted(s, rows, js, low, high)
@@ -119,7 +127,10 @@ pub fn rows_differ(s: &[u32], rows: Rows) -> bool
 {
     let js = [0u32, 1, 2, 3, 4, 5];
     let width = rows.width;
-    occurring(s, rows, &js[..width], 1, 1)
+    if is_compared(rows.count) {
+        return columns::occurring(s, rows, &js[..width], 1, 1);
+    }
+    occurring_sorted(s, rows, &js[..width], 1, 1)
 }
 
 // The values of the column differ.
@@ -133,5 +144,8 @@ pub fn differ(s: &[u32], column: Column) -> bool
         width: column.step,
         count: column.count,
     };
-    occurring(s, rows, &js, 1, 1)
+    if is_compared(rows.count) {
+        return columns::occurring(s, rows, &js, 1, 1);
+    }
+    occurring_sorted(s, rows, &js, 1, 1)
 }

@@ -1,5 +1,6 @@
 -- `constraints::role_within` meets its contract. The members of its type are the other column.
 -- Assumes nothing.
+use Rattle.order.specs.Parts.{sortable-so}
 use Rattle.constraints.proofs.Preds.{k7-role}
 use borrow.Author.Needs.{needs}
 use Rattle.constraints.proofs.role_within.Statement.{statement}
@@ -11,5 +12,8 @@ role-within-spec =
     (tie.spec
     (λ c κs. search needs)
     (λ c κs. search needs)
+    (λ c κs. search needs)
+    (λ c κs. search (needs, sortable-so))
+    (λ c. search (needs, k7-role))
     (λ c κs. search needs)
     (λ c. search (needs, k7-role)))

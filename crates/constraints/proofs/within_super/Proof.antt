@@ -1,5 +1,6 @@
 -- `constraints::within_super` meets its contract. A root has no supertype.
 -- Assumes nothing.
+use Rattle.order.specs.Parts.{sortable-so}
 use Rattle.constraints.proofs.Types.{k4-root, k4-sub}
 use borrow.Author.Needs.{needs}
 use Rattle.constraints.proofs.within_super.Statement.{statement}
@@ -13,5 +14,8 @@ within-super-spec =
     (λ c. search (needs, k4-root))
     (λ c κs. search needs)
     (λ c κs. search needs)
+    (λ c κs. search needs)
+    (λ c κs. search (needs, sortable-so))
+    (λ c. search (needs, k4-sub))
     (λ c κs. search needs)
     (λ c. search (needs, k4-sub)))

@@ -1,0 +1,16 @@
+-- `runs::occurring` meets its contract. Rows that are not sorted are compared.
+-- Assumes nothing.
+use Rattle.runs.proofs.Walked.{sorted-few}
+use borrow.Author.Needs.{needs}
+use Rattle.runs.proofs.occurring.Statement.{statement}
+use Rattle.runs.proofs.occurring.Tie as tie
+
+pub occurring-spec : {M : Type 1} → statement M
+occurring-spec =
+    tie.close
+    (tie.spec
+    (λ c κs. search needs)
+    (λ c κs. search needs)
+    (λ c. search needs)
+    (λ c κs. search (needs, sorted-few))
+    (λ c. search needs))

@@ -1,9 +1,9 @@
 -- Predicates of a valid table whose blocks are there whole, by positions.
-use Prim.Native.Nat.{ℕ, zero, suc, _+_, _*_, _-_, _≤_, _<_}
+use Prim.Native.Nat.{ℕ, _+_, _*_, _-_, _≤_, _<_}
 use native.Mathlib.Omega.{arith}
-use mathlib.Core.Path.{_≡_, refl, sym, ap, subst⁻¹, _∙_}
-use mathlib.Core.List.{List, [], _∷_}
-use lib.ListN.{length, getD, take, drop, length-drop}
+use mathlib.Core.Path.{_≡_, refl}
+use mathlib.Core.List.{List, _∷_}
+use lib.ListN.{length, getD, drop, length-drop}
 use Rattle.counting.specs.Terms.{Each, Each2}
 use Rattle.counting.specs.Laws.Members.{each-head, each-tail}
 use Rattle.orm.specs.Diagram.{Predicate}
@@ -37,8 +37,8 @@ pub record Populated (t s : List ℕ) : Type 0 where
 
 -- ---- the columns of such a predicate are there
 
-pub column-reached : (t s : List ℕ) (pred at : ℕ) (c : Column) {w : ℕ} → PredHere t s pred at → w ≡ predWidth (predOf (drop pred t)) → ColumnHere s at w c
-    → Reached s c
+pub column-reached : (t s : List ℕ) (pred at : ℕ) (c : Column) {w : ℕ} → PredHere t s pred at → w ≡ predWidth (predOf (drop pred t))
+    → ColumnHere s at w c → Reached s c
 column-reached t s pred at c {w} here e h =
     let few : w ≤ 6 = rw e (here .few) in
     let room : getD (drop at s) 0 0 * predWidth (predOf (drop pred t)) ≤ length (drop 1 (drop at s)) = wide-room _ _ _ (here .wide) in
@@ -64,7 +64,8 @@ module _ (t s : List ℕ) (pred at left : ℕ) (st : Standing t s pred at left) 
       → drop to s ≡ drop (blockLength w (drop at s)) (drop at s) → Standing t s next to (left - 1)
   unfolding contents
   standing-more next to f q z =
-      let few : Each (λ (p : Predicate). predWidth p ≤ 6) (predOf (drop pred t) ∷ predsIn (left - 1) (drop next t)) = rw (preds-more t pred left h q) at (st .few) in
+      let few : Each (λ (p : Predicate). predWidth p ≤ 6) (predOf (drop pred t) ∷ predsIn (left - 1) (drop next t)) =
+      rw (preds-more t pred left h q) at (st .few) in
       let wide = rw (preds-more t pred left h q) at (st .wide) in
       record { few = each-tail _ few; wide = rw (z, f) (wide .1) }
 

@@ -100,7 +100,8 @@ wide-room (suc k) w l e =
 pub rows-keyed : (s : List ℕ) (r : Rows) (js : List ℕ) → r .width ≤ 6 → r .start ≤ length s → Wide (r .width) (rowsHeld s r) → Columns (r .width) js
     → Keyed s r js
 rows-keyed s r js n h w c =
-    let room : r .start + r .count * r .width ≤ length s = omega (arith, wide-room (r .count) (r .width) (drop (r .start) s) (w .each), length-drop (r .start) s) in
+    let cells : r .count * r .width ≤ length (drop (r .start) s) = wide-room (r .count) (r .width) (drop (r .start) s) (w .each) in
+    let room : r .start + r .count * r .width ≤ length s = omega (arith, length-drop (r .start) s) in
     record { narrow = omega arith; room = omega arith; each = λ j m. (c .each j m, omega (arith, c .each j m)) }
 
 -- all columns of up to six
@@ -112,7 +113,8 @@ all-keyed s r js n h w e =
 
 -- ---- a column as rows
 
-pub column-keyed : (s : List ℕ) (c : Column) (r : Rows) → Reached s c → r .start ≡ c .start → r .width ≡ c .step → r .count ≡ c .count → Keyed s r (0 ∷ [])
+pub column-keyed : (s : List ℕ) (c : Column) (r : Rows) → Reached s c → r .start ≡ c .start → r .width ≡ c .step → r .count ≡ c .count
+    → Keyed s r (0 ∷ [])
 column-keyed s c r h p q t =
     let e : r .count * r .width ≡ c .count * c .step = rw (q, t) in
     record {

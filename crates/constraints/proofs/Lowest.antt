@@ -1,15 +1,15 @@
 -- The lowest number that breaks a constraint, and the lowest constraint that is broken.
-use Prim.Native.Nat.{ℕ, zero, suc, _+_, _*_, _-_, _≤_, _<_}
+use Prim.Native.Nat.{ℕ, zero, suc, _+_, _-_, _≤_, _<_}
 use native.Mathlib.Numerals.{add-one}
 use native.Mathlib.Omega.{arith}
-use mathlib.Core.Path.{_≡_, refl, sym, ap, ap₂, subst, _∙_}
+use mathlib.Core.Path.{_≡_, refl, ap}
 use mathlib.Core.Bool.{Bool, true, false, not}
 use mathlib.Core.Option.{Option, none, some}
 use mathlib.Core.List.{List, [], _∷_}
 use lib.Dec.{leb}
 use lib.ListN.{length, getD, drop}
 use borrow.Author.Tests.{le-leb, lt-leb, not-true, not-false}
-use Rattle.orm.specs.Diagram.{ObjectType, Predicate, Diagram}
+use Rattle.orm.specs.Diagram.{Diagram}
 use Rattle.orm.specs.Form.{typeOf, roleOf}
 use Rattle.orm.specs.Population.{Population}
 use Rattle.orm.specs.Constraints.{Answer, valid, breaks, eachType, eachPred, firstFalse, firstBroken, constraints, answer}

@@ -12,7 +12,10 @@ use Rattle.columns.proofs.occurrences.Statement.{statement}
 use Rattle.columns.proofs.occurrences.Tie as tie
 
 abbrev Inv-loop : tie.InvT-loop
-Inv-loop s rows js a at₀ left₀ n₀ at left n = (n + left ≤ rows .count) × (at + left * rows .width ≡ endOfRows rows) × Counted s rows js (combination js (take (rows .width) (drop a s))) at left n
+Inv-loop s rows js a at₀ left₀ n₀ at left n =
+    (n + left ≤ rows .count)
+    × (at + left * rows .width ≡ endOfRows rows)
+    × Counted s rows js (combination js (take (rows .width) (drop a s))) at left n
 
 abbrev μ-loop : tie.MeasureT-loop
 μ-loop s rows js a at₀ left₀ n₀ at left n = left

@@ -11,7 +11,9 @@ use Rattle.playing.proofs.all_marked.Statement.{statement}
 use Rattle.playing.proofs.all_marked.Tie as tie
 
 abbrev Inv-loop : tie.InvT-loop
-Inv-loop cells members list marks at₀ left₀ at left = (at + left * members .step ≡ endOfColumn members) × AllLeft cells members marks (valuesIn cells members) at left
+Inv-loop cells members list marks at₀ left₀ at left =
+    (at + left * members .step ≡ endOfColumn members)
+    × AllLeft cells members marks (valuesIn cells members) at left
 
 abbrev μ-loop : tie.MeasureT-loop
 μ-loop cells members list marks at₀ left₀ at left = left

@@ -12,7 +12,9 @@ use Rattle.playing.proofs.all_play.Statement.{statement}
 use Rattle.playing.proofs.all_play.Tie as tie
 
 abbrev Inv-loop : tie.InvT-loop
-Inv-loop t cells column number at₀ left₀ at left = (at + left * column .step ≡ endOfColumn column) × WithinLeft cells column (playedBy (diagramOf t) (populationOf t cells) number) at left
+Inv-loop t cells column number at₀ left₀ at left =
+    (at + left * column .step ≡ endOfColumn column)
+    × WithinLeft cells column (playedBy (diagramOf t) (populationOf t cells) number) at left
 
 abbrev μ-loop : tie.MeasureT-loop
 μ-loop t cells column number at₀ left₀ at left = left

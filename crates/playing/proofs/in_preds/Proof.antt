@@ -12,7 +12,10 @@ use Rattle.playing.proofs.in_preds.Statement.{statement}
 use Rattle.playing.proofs.in_preds.Tie as tie
 
 abbrev Inv-loop : tie.InvT-loop
-Inv-loop t cells x number pred₀ at₀ left₀ pred at left = (pred + 5000000 * left ≤ 200000000) × Standing t cells pred at left × InPredsLeft t cells x number (member eqb x (playedBy (diagramOf t) (populationOf t cells) number)) pred at left
+Inv-loop t cells x number pred₀ at₀ left₀ pred at left =
+    (pred + 5000000 * left ≤ 200000000)
+    × Standing t cells pred at left
+    × InPredsLeft t cells x number (member eqb x (playedBy (diagramOf t) (populationOf t cells) number)) pred at left
 
 abbrev μ-loop : tie.MeasureT-loop
 μ-loop t cells x number pred₀ at₀ left₀ pred at left = left

@@ -13,7 +13,10 @@ use Rattle.playing.proofs.in_roles.Statement.{statement}
 use Rattle.playing.proofs.in_roles.Tie as tie
 
 abbrev Inv-loop : tie.InvT-loop
-Inv-loop t cells x number pred at w role₀ j₀ left₀ role j left = (j + left ≡ w) × (role + 3 * left ≤ 300000000) × InRolesLeft t cells x number (predWidth (predOf (drop pred t))) at (inRoles x number 0 (predOf (drop pred t) .roles) (rowsAt (predWidth (predOf (drop pred t))) (drop at cells))) role j left
+Inv-loop t cells x number pred at w role₀ j₀ left₀ role j left =
+    (j + left ≡ w)
+    × (role + 3 * left ≤ 300000000)
+    × InRolesLeft t cells x number (predWidth (predOf (drop pred t))) at (inRoles x number 0 (predOf (drop pred t) .roles) (rowsAt (predWidth (predOf (drop pred t))) (drop at cells))) role j left
 
 abbrev μ-loop : tie.MeasureT-loop
 μ-loop t cells x number pred at w role₀ j₀ left₀ role j left = left

@@ -10,7 +10,11 @@ use Rattle.playing.proofs.mark_preds.Statement.{statement}
 use Rattle.playing.proofs.mark_preds.Tie as tie
 
 abbrev Inv-loop : tie.InvT-loop
-Inv-loop t cells number members list marks₀ pred₀ at₀ left₀ marks pred at left = (pred + 5000000 * left ≤ 200000000) × Standing t cells pred at left × Ready cells members list marks × PredsLeft (valuesIn cells members) marks₀ marks t cells number pred at left
+Inv-loop t cells number members list marks₀ pred₀ at₀ left₀ marks pred at left =
+    (pred + 5000000 * left ≤ 200000000)
+    × Standing t cells pred at left
+    × Ready cells members list marks
+    × PredsLeft (valuesIn cells members) marks₀ marks t cells number pred at left
 
 abbrev μ-loop : tie.MeasureT-loop
 μ-loop t cells number members list marks₀ pred₀ at₀ left₀ marks pred at left = left

@@ -11,7 +11,11 @@ use Rattle.playing.proofs.mark_roles.Statement.{statement}
 use Rattle.playing.proofs.mark_roles.Tie as tie
 
 abbrev Inv-loop : tie.InvT-loop
-Inv-loop t cells number pred at members list marks₀ w role₀ j₀ left₀ marks role j left = (j + left ≡ w) × (role + 3 * left ≤ 300000000) × Ready cells members list marks × RolesLeft (valuesIn cells members) marks₀ marks t cells number pred at role j left
+Inv-loop t cells number pred at members list marks₀ w role₀ j₀ left₀ marks role j left =
+    (j + left ≡ w)
+    × (role + 3 * left ≤ 300000000)
+    × Ready cells members list marks
+    × RolesLeft (valuesIn cells members) marks₀ marks t cells number pred at role j left
 
 abbrev μ-loop : tie.MeasureT-loop
 μ-loop t cells number pred at members list marks₀ w role₀ j₀ left₀ marks role j left = left

@@ -12,7 +12,10 @@ use Rattle.playing.proofs.mark_values.Statement.{statement}
 use Rattle.playing.proofs.mark_values.Tie as tie
 
 abbrev Inv-loop : tie.InvT-loop
-Inv-loop cells values members list marks₀ at₀ left₀ marks at left = (at + left * values .step ≡ endOfColumn values) × Ready cells members list marks × ValuesLeft (valuesIn cells members) marks₀ marks cells values at left
+Inv-loop cells values members list marks₀ at₀ left₀ marks at left =
+    (at + left * values .step ≡ endOfColumn values)
+    × Ready cells members list marks
+    × ValuesLeft (valuesIn cells members) marks₀ marks cells values at left
 
 abbrev μ-loop : tie.MeasureT-loop
 μ-loop cells values members list marks₀ at₀ left₀ marks at left = left

@@ -24,8 +24,8 @@ use Rattle.table.specs.Positions.{diagramOf}
 use Rattle.table.specs.Valid.{Valid}
 use Rattle.table.specs.Laws.Valid.{accepted-valid}
 use Rattle.lowering.specs.Laws.Decoding.{decode-encode}
-use Rattle.limits.specs.Laws.Room.{start-bounds, limits-fit, lower-fits, upper-fits}
-use Rattle.bounds.specs.Answer.{checkOf, ended, Answered, Limits, Scratch}
+use Rattle.limits.specs.Laws.Room.{start-bounds, as-many, limits-fit, lower-fits}
+use Rattle.bounds.specs.Answer.{checkOf, ended, Answered, Limits, Lowers, FewLowers}
 use Rattle.bounds.specs.declared.CheckAnswer.{CheckAnswer}
 use Rattle.bounds.specs.declared.CheckAnswer.the-variants.{Refused}
 
@@ -102,41 +102,61 @@ module _ {t : List ℕ} (v : Valid t) where
   pub limits-whole : {l l′ : List ℕ} {m : ℕ} → length l ≡ 6752 → Wrote l 0 (encode (limits (diagramOf t))) l′ m → Limits t (take m l′)
   limits-whole h w = record { are = wrote-front w (omega (arith, limits-fit (diagramOf t) (v .formed))) }
 
-  -- what was written into the scratch `a` and `b`
-  module _ {a b : List ℕ} (scratch : Scratch a b) where
-    lower-room : length (lower (diagramOf t)) ≤ length a
-    lower-room = omega (arith, lower-fits (diagramOf t) (v .formed), scratch .lower)
+  -- the lower bounds, where there was room for those of every diagram
+  pub lower-within : {a a′ : List ℕ} {n : ℕ} → length a ≡ 208 → Wrote a 0 (lower (diagramOf t)) a′ n → n ≤ length a′
+  lower-within h w = wrote-within w (omega (arith, lower-fits (diagramOf t) (v .formed)))
 
+  pub lower-whole : {a a′ b : List ℕ} {n : ℕ} → length a ≡ 208 → length b ≡ 208 → Wrote a 0 (lower (diagramOf t)) a′ n
+      → Lowers t (take n a′) b
+  lower-whole {a} {a′} {b} {n} h k w =
+      let e : take n a′ ≡ lower (diagramOf t) = wrote-front w (omega (arith, lower-fits (diagramOf t) (v .formed))) in
+      record { are = e; room = rw e (omega (arith, lower-fits (diagramOf t) (v .formed))) }
+
+  -- what was written into the scratch `b` for upper bounds
+  module _ {l b : List ℕ} (low : Lowers t l b) where
     upper-room : length (upper (diagramOf t)) ≤ length b
-    upper-room = omega (arith, upper-fits (diagramOf t) (v .formed), scratch .upper)
+    upper-room = let e : length l ≡ length (lower (diagramOf t)) = ap length (low .are) in
+        omega (arith, as-many (diagramOf t) (v .formed), low .room)
 
-    pub lower-within : {a′ : List ℕ} {n : ℕ} → Wrote a 0 (lower (diagramOf t)) a′ n → n ≤ length a′
-    lower-within w = wrote-within w lower-room
+    module _ {b′ : List ℕ} {k : ℕ} (w : Wrote b 0 (upper (diagramOf t)) b′ k) where
+      pub upper-within : k ≤ length b′
+      upper-within = wrote-within w upper-room
 
-    pub upper-within : {b′ : List ℕ} {k : ℕ} → Wrote b 0 (upper (diagramOf t)) b′ k → k ≤ length b′
-    upper-within w = wrote-within w upper-room
+      pub check-bounds : Bounds l (take k b′)
+      check-bounds = rw (low .are, wrote-front w upper-room) (start-bounds (diagramOf t) (v .formed))
 
-    module _ {a′ b′ : List ℕ} {n k : ℕ} (wa : Wrote a 0 (lower (diagramOf t)) a′ n) (wb : Wrote b 0 (upper (diagramOf t)) b′ k) where
-      pub check-bounds : Bounds (take n a′) (take k b′)
-      check-bounds = rw (wrote-front wa lower-room, wrote-front wb upper-room) (start-bounds (diagramOf t) (v .formed))
-
-      pub checked : {l s s′ : List ℕ} {r : CheckAnswer} → Limits t l
-          → Answered (ended (run (decode l) (take n a′) (take k b′)) (length s)) r s s′ → Answered (checkCall t (length s)) r s s′
+      pub checked : {ls s s′ : List ℕ} {r : CheckAnswer} → Limits t ls
+          → Answered (ended (run (decode ls) l (take k b′)) (length s)) r s s′ → Answered (checkCall t (length s)) r s s′
       unfolding verdict
       checked {s = s} e h =
           rw (check-is (length s))
-          (rw (ap decode (e .are) ∙ decode-encode (limits (diagramOf t)), wrote-front wa lower-room, wrote-front wb upper-room) at h)
+          (rw (ap decode (e .are) ∙ decode-encode (limits (diagramOf t)), low .are, wrote-front w upper-room) at h)
 
 -- a buffer that is not full has all that was to be written
-module _ (t : List ℕ) {l l′ : List ℕ} {m : ℕ} (w : Wrote l 0 (encode (limits (diagramOf t))) l′ m) (few : m < 512) (long : length l ≡ 512) where
-  not-full : m < length l′
-  not-full = omega (arith, wrote-long w)
+module _ {l xs l′ : List ℕ} {m : ℕ} (w : Wrote l 0 xs l′ m) (room : m < length l) where
+  fits : length xs ≤ length l
+  fits = omega (arith, wrote-fit w (let k : m < length l′ = omega (arith, wrote-long w) in k))
 
-  fits : length (encode (limits (diagramOf t))) ≤ length l
-  fits = omega (arith, wrote-fit w not-full)
+  part-within : m ≤ length l′
+  part-within = wrote-within w fits
 
-  pub small-within : m ≤ length l′
-  small-within = wrote-within w fits
+  part-whole : take m l′ ≡ xs
+  part-whole = wrote-front w fits
 
-  pub small-whole : Limits t (take m l′)
-  small-whole = record { are = wrote-front w fits }
+module _ (t : List ℕ) {l l′ : List ℕ} {m : ℕ} where
+  module _ (w : Wrote l 0 (encode (limits (diagramOf t))) l′ m) (few : m < 128) (long : length l ≡ 128) where
+    pub few-limits-within : m ≤ length l′
+    few-limits-within = part-within w (omega arith)
+
+    pub few-limits-whole : Limits t (take m l′)
+    few-limits-whole = record { are = part-whole w (omega arith) }
+
+  module _ (w : Wrote l 0 (lower (diagramOf t)) l′ m) (few : m < 32) (long : length l ≡ 32) where
+    pub few-lower-within : m ≤ length l′
+    few-lower-within = part-within w (omega arith)
+
+    pub few-lower-whole : FewLowers t (take m l′)
+    few-lower-whole = record { are = part-whole w (omega arith); few = omega (arith, length-take-le m l′ few-lower-within) }
+
+pub few-lowers : (t l b : List ℕ) → length b ≡ 32 → FewLowers t l → Lowers t l b
+few-lowers t l b e h = record { are = h .are; room = omega (arith, h .few) }

@@ -1,11 +1,11 @@
 -- What the check hands back, and what it leaves in the buffer, in document 01's words.
-use Prim.Native.Nat.{ℕ, suc}
+use Prim.Native.Nat.{ℕ, suc, _≤_, _<_}
 use mathlib.Core.Path.{_≡_}
 use mathlib.Core.List.{List}
 use lib.ListN.{length}
 use Rattle.fixpoint.specs.Limits.{Verdict, unsatisfiable, fixpoint}
 use Rattle.orm.specs.Outcome.{Outcome, refused, accepted, _>>=_, fitted, bufferAfter, Sized, written, Handed, handedBack}
-use Rattle.orm.specs.Sets.{limits}
+use Rattle.orm.specs.Sets.{lower, limits}
 use Rattle.lowering.specs.Encoding.{encode}
 use Rattle.table.specs.Positions.{diagramOf}
 use Rattle.grammar.specs.Fault.{numberOf}
@@ -33,7 +33,12 @@ pub record Answered (o : Outcome Sized) (r : CheckAnswer) (before after : List �
 pub record Limits (t l : List ℕ) : Type 0 where
   pub are : l ≡ encode (limits (diagramOf t))
 
--- Room for the bounds of every diagram
-pub record Scratch (a b : List ℕ) : Type 0 where
-  pub lower : length a ≡ 208
-  pub upper : length b ≡ 208
+-- The lower bounds of its sets, and scratch for as many upper bounds
+pub record Lowers (t l space : List ℕ) : Type 0 where
+  pub are : l ≡ lower (diagramOf t)
+  pub room : length l ≤ length space
+
+-- The lower bounds of few sets
+pub record FewLowers (t l : List ℕ) : Type 0 where
+  pub are : l ≡ lower (diagramOf t)
+  pub few : length l < 32

@@ -8,7 +8,7 @@ ghost use Rattle.rounds.specs.Answer.{Bounds};
 ghost use Rattle.table.specs.Valid.{Valid};
 ghost use Rattle.orm.specs.Outcome.{bufferAfter, written, handedBack};
 ghost use Rattle.orm.specs.Calls.{checkCall};
-ghost use Rattle.bounds.specs.Answer.{checkOf, ended, Answered, Limits, Scratch};
+ghost use Rattle.bounds.specs.Answer.{checkOf, ended, Answered, Limits, Lowers, FewLowers};
 
 // How a check ends: the table is refused (1 to 6), a set is emptied (7), the buffer is too short for
 // the sizes (8), or the sizes stand at its front.
@@ -43,7 +43,7 @@ fn answer(limits: &[u32], lower: &[u32], upper: &mut [u32], sizes: &mut [u32]) -
         ⌜ Answered (ended (run (decode (now (limits .entry))) (now (lower .entry)) (now (upper .entry))) (length (now (sizes .entry)))) r
         (now (sizes .entry)) (now (sizes .exit)) ⌝ }
 {
-    let outcome = rounds::settle(limits, lower, upper);
+    let outcome = rounds::settle_over(limits, lower, upper);
     match outcome {
         rounds::Outcome::Unsatisfiable { set, round } => CheckAnswer::Unsatisfiable {
             set: set + 1,
@@ -54,22 +54,21 @@ fn answer(limits: &[u32], lower: &[u32], upper: &mut [u32], sizes: &mut [u32]) -
     }
 }
 
-// The same of a valid table with its limits; `lower` and `upper` are scratch.
+// The same of a valid table with its limits and lower bounds; `upper` is scratch.
 fn check_in(
     table: &[u32],
     limits: &[u32],
-    lower: &mut [u32],
+    lower: &[u32],
     upper: &mut [u32],
     sizes: &mut [u32],
 ) -> CheckAnswer
     requires { ⌜ Valid (now table) ⌝ }
     requires { ⌜ Limits (now table) (now limits) ⌝ }
-    requires { ⌜ Scratch (now lower) (now upper) ⌝ }
+    requires { ⌜ Lowers (now table) (now lower) (now upper) ⌝ }
     ensures { λ r. ⌜ Answered (checkCall (now (table .entry)) (length (now (sizes .entry)))) r (now (sizes .entry)) (now (sizes .exit)) ⌝ }
 {
-    let n = limits::write_lower(table, lower);
     let k = limits::write_upper(table, upper);
-    answer(limits, &lower[..n], &mut upper[..k], sizes)
+    answer(limits, lower, &mut upper[..k], sizes)
 }
 
 // A call's result is a name in what is to be proved; an array written in place is all its numbers.
@@ -77,14 +76,19 @@ fn limit_space() -> [u32; 6752] {
     [0u32; 6752]
 }
 
-fn small_space() -> [u32; 512] {
-    [0u32; 512]
-}
-
 fn set_space() -> [u32; 208] {
     [0u32; 208]
 }
 
+fn few_limits() -> [u32; 128] {
+    [0u32; 128]
+}
+
+fn few_sets() -> [u32; 32] {
+    [0u32; 32]
+}
+
+// With room for the sets of every diagram.
 fn check_by(table: &[u32], limits: &[u32], sizes: &mut [u32]) -> CheckAnswer
     requires { ⌜ Valid (now table) ⌝ }
     requires { ⌜ Limits (now table) (now limits) ⌝ }
@@ -92,7 +96,8 @@ fn check_by(table: &[u32], limits: &[u32], sizes: &mut [u32]) -> CheckAnswer
 {
     let mut lower = set_space();
     let mut upper = set_space();
-    check_in(table, limits, &mut lower, &mut upper, sizes)
+    let n = limits::write_lower(table, &mut lower);
+    check_in(table, limits, &lower[..n], &mut upper, sizes)
 }
 
 // With room for the limits of every diagram.
@@ -105,15 +110,40 @@ fn check_large(table: &[u32], sizes: &mut [u32]) -> CheckAnswer
     check_by(table, &limits[..m], sizes)
 }
 
+// With room for few sets, whose lower bounds are known.
+fn check_few(table: &[u32], limits: &[u32], lower: &[u32], sizes: &mut [u32]) -> CheckAnswer
+    requires { ⌜ Valid (now table) ⌝ }
+    requires { ⌜ Limits (now table) (now limits) ⌝ }
+    requires { ⌜ FewLowers (now table) (now lower) ⌝ }
+    ensures { λ r. ⌜ Answered (checkCall (now (table .entry)) (length (now (sizes .entry)))) r (now (sizes .entry)) (now (sizes .exit)) ⌝ }
+{
+    let mut upper = few_sets();
+    check_in(table, limits, lower, &mut upper, sizes)
+}
+
+// With room for few limits.
+fn check_small(table: &[u32], lower: &[u32], sizes: &mut [u32]) -> CheckAnswer
+    requires { ⌜ Valid (now table) ⌝ }
+    requires { ⌜ FewLowers (now table) (now lower) ⌝ }
+    ensures { λ r. ⌜ Answered (checkCall (now (table .entry)) (length (now (sizes .entry)))) r (now (sizes .entry)) (now (sizes .exit)) ⌝ }
+{
+    let mut limits = few_limits();
+    let m = limits::write_limits(table, &mut limits);
+    if m < 128 {
+        return check_few(table, &limits[..m], lower, sizes);
+    }
+    check_large(table, sizes)
+}
+
 // With little room first: clearing much costs more than a small diagram's rounds.
 fn check_valid(table: &[u32], sizes: &mut [u32]) -> CheckAnswer
     requires { ⌜ Valid (now table) ⌝ }
     ensures { λ r. ⌜ Answered (checkCall (now (table .entry)) (length (now (sizes .entry)))) r (now (sizes .entry)) (now (sizes .exit)) ⌝ }
 {
-    let mut limits = small_space();
-    let m = limits::write_limits(table, &mut limits);
-    if m < 512 {
-        return check_by(table, &limits[..m], sizes);
+    let mut lower = few_sets();
+    let n = limits::write_lower(table, &mut lower);
+    if n < 32 {
+        return check_small(table, &lower[..n], sizes);
     }
     check_large(table, sizes)
 }

@@ -5,7 +5,7 @@ use native.Mathlib.Omega.{arith}
 use mathlib.Core.Path.{_≡_, refl, sym, ap, _∙_, subst⁻¹}
 use mathlib.Core.Bool.{Bool, true, false, _||_}
 use mathlib.Core.List.{List, [], _∷_, _++_}
-use lib.Dec.{ltb}
+use lib.Dec.{eqb, ltb}
 use lib.ListN.{length, getD, take, drop, drop-of-length-le}
 use lib.Seq.{drop-cons}
 use borrow.Author.Tests.{ltb-false, lt-ltb, le-ltb, eq-eqb, ne-eqb}
@@ -14,7 +14,7 @@ use Rattle.buffer.specs.Written.{Wrote, Writing, Splits}
 use Rattle.buffer.specs.Laws.{wrote-none, writing-start, writing-more, writing-all, writing-long}
 use Rattle.lowering.specs.Encoding.{limitAt}
 use Rattle.lowering.specs.Laws.Lowered.{part-end, length-lowered}
-use Rattle.dependents.specs.Dependents.{operandsAt, has, reads, when, dependentsFrom, dependents, limitsAt, dependingIf}
+use Rattle.dependents.specs.Dependents.{operandsAt, has, reads, when, dependentsFrom, dependents, limitsAt}
 use Rattle.dependents.specs.Dependents.{Row, Within}
 
 -- ---- operands
@@ -35,14 +35,23 @@ pub has-more : (ss : List ℕ) (s i : ℕ) {o : ℕ} → Has ss s i → i < leng
 unfolding has
 has-more ss s i w h e n = rw add-one (rw (drop-cons ss i 0 h, ne-eqb (getD ss i 0) s (λ q. n (e ∙ q)), has) at w)
 
-module _ (ss : List ℕ) (s : ℕ) {f o : ℕ} (ef : f ≡ getD ss 0 0) (eo : o ≡ f) where
-  pub reads-first : o ≡ s → true ≡ reads ss s
-  unfolding reads
-  reads-first q = rw (eq-eqb (getD ss 0 0) s (sym ef ∙ sym eo ∙ q))
+pub reads-none : (ss : List ℕ) (s : ℕ) {b : Bool} → length ss ≡ 0 → b ≡ eqb 0 s → b ≡ reads ss s
+unfolding reads has
+reads-none [] s {b} h e = go (eqb 0 s) e
+  where
+    go : (d : Bool) → b ≡ d → b ≡ (d || false)
+    go true q = q
+    go false q = q
+reads-none (o ∷ os) s h e = absurd (omega arith)
 
-  pub reads-rest : {b : Bool} → (o ≡ s → ⊥) → b ≡ has ss s → b ≡ reads ss s
-  unfolding reads
-  reads-rest n e = rw (ne-eqb (getD ss 0 0) s (λ q. n (eo ∙ ef ∙ q))) e
+pub reads-some : (ss : List ℕ) (s : ℕ) {b : Bool} → (length ss ≡ 0 → ⊥) → b ≡ has ss s → b ≡ reads ss s
+unfolding reads has
+reads-some [] s n e = absurd (n refl)
+reads-some (o ∷ os) s {b} n e = go (eqb o s) e
+  where
+    go : (d : Bool) → b ≡ elim d [ true ↦ true | false ↦ has os s ] → b ≡ (d || elim d [ true ↦ true | false ↦ has os s ])
+    go true q = q
+    go false q = q
 
 pub reads-part : (xs : List ℕ) (at s : ℕ) {e : ℕ} {b : Bool} → at + 4 ≤ length xs → e ≡ min (at + 4 + getD xs (at + 3) 0) (length xs)
     → b ≡ reads (take (e - (at + 4)) (drop (at + 4) xs)) s → b ≡ reads (operandsAt xs at) s
@@ -151,11 +160,3 @@ module _ (xs starts entries : List ℕ) (s : ℕ) (r : Row xs starts entries s) 
       → new′ ≡ loweredBy old (limitsAt xs (take (getD starts (s + 1) 0 - getD starts s 0) (drop (getD starts s 0) entries))) new
       → new′ ≡ loweredBy old (limitsAt xs (dependents xs s)) new
   row-used old new e = e ∙ ap (λ (ps : List ℕ). loweredBy old (limitsAt xs ps) new) (r .is)
-
-pub used-if : (xs old new : List ℕ) (s : ℕ) {b : Bool} {new′ : List ℕ} → b ≡ true → new′ ≡ loweredBy old (limitsAt xs (dependents xs s)) new
-    → new′ ≡ loweredBy old (dependingIf b xs s) new
-used-if xs old new s e h = rw e h
-
-pub unused-if : (xs old new : List ℕ) (s : ℕ) {b : Bool} → b ≡ false → new ≡ loweredBy old (dependingIf b xs s) new
-unfolding loweredBy
-unused-if xs old new s e = rw e

@@ -11,7 +11,7 @@ use borrow.Author.Tests.{eq-eqb, ne-eqb, le-leb, lt-leb, leb-true, not-true, not
 use Rattle.fixpoint.specs.Limits.{Limit, Verdict, unsatisfiable, fixpoint, run}
 use Rattle.rounds.specs.declared.Outcome.{Outcome}
 use Rattle.rounds.specs.declared.Outcome.the-variants.{Refused, Unsatisfiable, Fixpoint}
-use Rattle.rounds.specs.Answer.{outcomeOf, upperOf, Bounds, Space, allSmall, taken, whenTaken, keptUnless}
+use Rattle.rounds.specs.Answer.{outcomeOf, upperOf, Bounds, Ready, Stepped, allSmall, taken, whenTaken, keptUnless}
 
 at-fixpoint : (v : Verdict) {r : Outcome} {n : ℕ} (x y : List ℕ) → r ≡ Fixpoint n → r ≡ outcomeOf v → upperOf v x ≡ upperOf v y
 at-fixpoint (unsatisfiable s m) x y p e = cc
@@ -92,20 +92,26 @@ all-bounds lower upper {b} p h e t = record { paired = p; few = h; small = recor
 pub bounds-as : (lower upper : List ℕ) {x : List ℕ} → x ≡ upper → Bounds lower upper → Bounds lower x
 bounds-as lower upper e h = subst⁻¹ (Bounds lower) e h
 
-pub space-as : (starts upper next spare : List ℕ) {x : List ℕ} → x ≡ upper → Space starts upper next spare → Space starts x next spare
-space-as starts upper next spare e s = subst⁻¹ (λ (y : List ℕ). Space starts y next spare) e s
+-- the part of scratch that is lent has a place for each set
+module _ (lower upper xs : List ℕ) where
+  pub part-long : length xs ≡ 208 → Bounds lower upper → length (take (length upper) xs) ≡ length upper
+  part-long e h = let k : length upper ≤ length xs = omega (arith, h .few) in length-take-le (length upper) xs k
 
-pub part-long : (lower upper xs : List ℕ) → length xs ≡ 208 → Bounds lower upper → length (take (length upper) xs) ≡ length upper
-part-long lower upper xs e h = let k : length upper ≤ length xs = omega (arith, h .few) in length-take-le (length upper) xs k
+  pub part-count : length xs ≡ 208 → Bounds lower upper → length upper ≡ length (take (length upper) xs)
+  part-count e h = sym (part-long e h)
 
-pub part-count : (lower upper xs : List ℕ) → length xs ≡ 208 → Bounds lower upper → length upper ≡ length (take (length upper) xs)
-part-count lower upper xs e h = sym (part-long lower upper xs e h)
+  pub ready-count : length xs ≡ 208 → Ready lower upper → length upper ≡ length (take (length upper) xs)
+  ready-count e h = part-count e (h .bounds)
 
-pub part-space : (starts lower upper next spare : List ℕ) → length starts ≡ 209 → length next ≡ 208 → length spare ≡ 208
-    → Bounds lower upper
-    → Space starts upper (take (length upper) next) (take (length upper) spare)
-part-space starts lower upper next spare es en ep h = record {
-  places = omega (arith, h .few);
-  next-long = part-long lower upper next en h;
-  spare-long = part-long lower upper spare ep h;
-}
+  pub few-count : length xs ≡ 32 → length upper < 32 → length upper ≡ length (take (length upper) xs)
+  few-count e h = let k : length upper ≤ length xs = omega arith in sym (length-take-le (length upper) xs k)
+
+pub bounds-paired : (lower upper : List ℕ) → Bounds lower upper → length lower ≡ length upper
+bounds-paired lower upper h = h .paired
+
+-- an array with a place for each set, and one more
+pub stepped-places : (xs lower upper next places : List ℕ) → length places ≡ 209 → Stepped xs lower upper next → length upper < length places
+stepped-places xs lower upper next places e w = omega (arith, w .ready .bounds .few)
+
+pub few-places : (upper places : List ℕ) → length places ≡ 32 → length upper < 32 → length upper < length places
+few-places upper places e h = omega arith

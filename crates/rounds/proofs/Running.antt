@@ -23,7 +23,7 @@ use Rattle.dependents.specs.Dependents.{Indexed, Known}
 use Rattle.rounds.specs.declared.Place.{Place}
 use Rattle.rounds.specs.declared.Place.the-variants.{At, Nowhere}
 use Rattle.rounds.specs.declared.Outcome.the-variants.{Unsatisfiable, Fixpoint}
-use Rattle.rounds.specs.Answer.{placeOf, outcomeOf, upperOf, Bounds, Space, Started}
+use Rattle.rounds.specs.Answer.{placeOf, outcomeOf, upperOf, Bounds, Ready, Stepped, Started}
 
 slack-small : (f c : List ℕ) → Small c → slack f c ≤ 4096 * length c
 unfolding slack
@@ -122,6 +122,9 @@ module _ (b : Bool) (xs lower starts entries start : List ℕ) where
   turn-start w = record { bounds = w .bounds; running = begin (decode xs) lower start (w .above); known = w .known; long = refl }
 
   module _ (n : ℕ) (c c′ : List ℕ) (w : Turning b xs lower starts entries start n c c′) where
+    pub turn-paired : length lower ≡ length c′
+    turn-paired = w .bounds .paired ∙ sym (w .long) ∙ sym (ap length (w .known .made) ∙ round-≼ (decode xs) c .sized)
+
     pub count-fits : Fits w32 (n + 1)
     count-fits = fits (decode xs) lower start n c (w .running) (w .bounds)
 
@@ -170,25 +173,49 @@ module _ (b : Bool) (xs lower starts entries start : List ℕ) where
               long = ap length ex ∙ sized ∙ w .long;
             }
 
--- ---- lists that are copies
+-- ---- the start
 
-pub long-back : (x y : List ℕ) → length x ≡ length y → length y ≡ length x
-long-back x y e = sym e
+module _ (xs lower upper : List ℕ) where
+  pub start-ready : {r : Place} → Bounds lower upper → r ≡ placeOf (firstBelow 0 lower upper) → r ≡ Nowhere → Ready lower upper
+  start-ready h q p = record { bounds = h; above = none-of (firstBelow 0 lower upper) p q }
 
-pub start-none : (xs lower starts entries upper next spare : List ℕ) {b : Bool} {r : Place} {starts′ : List ℕ} → Bounds lower upper
-    → Space starts upper next spare
-    → r ≡ placeOf (firstBelow 0 lower upper) → r ≡ Nowhere → Indexed b xs starts′ entries (length upper) → length starts′ ≡ length starts
-    → {x : List ℕ}
-    → x ≡ round (decode xs) upper → Started b xs lower starts′ entries upper x
-start-none xs lower starts entries upper next spare h s q p i e {x} ex =
-    let long : length x ≡ length upper = ap length ex ∙ round-≼ (decode xs) upper .sized in
+  pub ready-stepped : {x : List ℕ} → Ready lower upper → x ≡ round (decode xs) upper → Stepped xs lower upper x
+  ready-stepped h e = record { ready = h; made = e }
+
+  pub same-round : {x : List ℕ} {b : Bool} → x ≡ round (decode xs) upper → b ≡ same x upper → b ≡ same (round (decode xs) upper) upper
+  same-round e h = h ∙ ap (λ (c : List ℕ). same c upper) e
+
+  -- the first round has changed nothing
+  module _ {b : Bool} (h : Ready lower upper) (e : b ≡ same (round (decode xs) upper) upper) (t : b ≡ true) where
+    first-is : run (decode xs) lower upper ≡ fixpoint 1 upper
+    first-is =
+        let s : round (decode xs) upper ≡ upper = same-decides .iff (round (decode xs) upper) upper .0 (sym e ∙ t) in
+        let q : Nowhere ≡ placeOf (firstBelow 0 lower (round (decode xs) upper)) =
+        ap placeOf (sym (ap (firstBelow 0 lower) s ∙ h .above)) in
+        same-is (decode xs) lower upper 0 upper (round (decode xs) upper) (begin (decode xs) lower upper (h .above)) refl q refl e t
+        ∙ ap (fixpoint 1) s
+
+    pub first-outcome : Fixpoint 1 ≡ outcomeOf (run (decode xs) lower upper)
+    first-outcome = ap outcomeOf (sym first-is)
+
+    pub first-upper : upper ≡ upperOf (run (decode xs) lower upper) upper
+    first-upper = ap (λ (v : Verdict). upperOf v upper) (sym first-is)
+
+pub step-long : {xs lower upper next : List ℕ} → Stepped xs lower upper next → length next ≡ length upper
+step-long {xs} {lower} {upper} w = ap length (w .made) ∙ round-≼ (decode xs) upper .sized
+
+pub step-started : (xs lower starts entries upper next : List ℕ) {b : Bool} {starts′ : List ℕ} → Stepped xs lower upper next
+    → length upper < length starts → Indexed b xs starts′ entries (length upper) → length starts′ ≡ length starts
+    → Started b xs lower starts′ entries upper next
+step-started xs lower starts entries upper next w s i e =
+    let long : length next ≡ length upper = step-long w in
     record {
-      bounds = h;
-      above = none-of (firstBelow 0 lower upper) p q;
+      bounds = w .ready .bounds;
+      above = w .ready .above;
       known = record {
         index = subst⁻¹ (Indexed _ xs _ entries) long i;
-        sets = omega (arith, s .places);
-        made = ex;
-        small = subst⁻¹ Small ex (round-small (decode xs) upper (h .small));
+        sets = omega arith;
+        made = w .made;
+        small = subst⁻¹ Small (w .made) (round-small (decode xs) upper (w .ready .bounds .small));
       };
     }

@@ -1,12 +1,13 @@
 -- What the functions answer, in the words of Limits.antt.
 use Prim.Native.Nat.{ℕ, _≤_, _<_}
 use mathlib.Core.Path.{_≡_}
-use mathlib.Core.Bool.{Bool, true, false, _&&_}
+use mathlib.Core.Bool.{Bool, true, false, _&&_, _||_}
 use mathlib.Core.List.{List, [], _∷_}
-use lib.Dec.{eqb, leb}
+use lib.Dec.{eqb, leb, ltb}
 use lib.ListN.{length}
 use mathlib.Core.Option.{Option, none, some}
-use Rattle.fixpoint.specs.Limits.{Verdict, unsatisfiable, fixpoint, firstBelow}
+use Rattle.fixpoint.specs.Limits.{Verdict, unsatisfiable, fixpoint, firstBelow, round}
+use Rattle.lowering.specs.Encoding.{decode}
 use Rattle.lowering.specs.Sizes.{Small}
 use Rattle.dependents.specs.Dependents.{Known}
 use Rattle.rounds.specs.declared.Place.{Place}
@@ -33,11 +34,15 @@ pub record Bounds (lower upper : List ℕ) : Type 0 where
   pub few : length upper ≤ 208
   pub small : Small upper
 
--- Scratch for the rounds on `upper`: a place for each set and one more, and room for two lists of sizes
-pub record Space (starts upper next spare : List ℕ) : Type 0 where
-  pub places : length upper < length starts
-  pub next-long : length next ≡ length upper
-  pub spare-long : length spare ≡ length upper
+-- No upper bound is below its lower bound at the start
+pub record Ready (lower upper : List ℕ) : Type 0 where
+  pub bounds : Bounds lower upper
+  pub above : firstBelow 0 lower upper ≡ none
+
+-- The first round made `next`
+pub record Stepped (xs lower upper next : List ℕ) : Type 0 where
+  pub ready : Ready lower upper
+  pub made : next ≡ round (decode xs) upper
 
 -- What the loop of rounds starts from: `next` came from `upper` by a round, and no upper bound is below its lower bound
 pub record Started (b : Bool) (xs lower starts entries upper next : List ℕ) : Type 0 where
@@ -45,7 +50,16 @@ pub record Started (b : Bool) (xs lower starts entries upper next : List ℕ) : 
   pub above : firstBelow 0 lower upper ≡ none
   pub known : Known b xs starts entries upper next
 
--- The same as a test, which `run` makes
+-- Whether an upper bound is below its lower bound
+unfoldable pub orBelow : Bool → ℕ → ℕ → Bool
+orBelow found x f = found || ltb x f
+
+unfoldable pub anyBelow : List ℕ → List ℕ → Bool
+anyBelow [] c = false
+anyBelow (f ∷ fs) [] = false
+anyBelow (f ∷ fs) (x ∷ xs) = ltb x f || anyBelow fs xs
+
+-- The bounds as a test, which `run` makes
 unfoldable pub allSmall : List ℕ → Bool
 allSmall [] = true
 allSmall (x ∷ xs) = leb x 4096 && allSmall xs

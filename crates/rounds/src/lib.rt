@@ -1,12 +1,14 @@
 // Rounds over limits of sizes: the upper bounds are lowered until one falls below its lower bound
 // or nothing changes. Limits stand in a slice of numbers, as specs/Encoding.antt of lowering says.
 ghost use mathlib.Core.Path.{_≡_};
+ghost use Prim.Native.Nat.{_<_};
 ghost use lib.ListN.{length};
 ghost use Rattle.fixpoint.specs.Limits.{round, firstBelow, run};
 ghost use Rattle.counting.specs.Lists.{same};
 ghost use Rattle.lowering.specs.Encoding.{decode};
-ghost use Rattle.dependents.specs.Dependents.{Known};
-ghost use Rattle.rounds.specs.Answer.{placeOf, outcomeOf, upperOf, Bounds, Space, Started, allSmall, taken, whenTaken, keptUnless};
+ghost use Rattle.lowering.specs.Sizes.{Small};
+ghost use Rattle.rounds.specs.Answer.{placeOf, outcomeOf, upperOf, Bounds, Ready, Stepped, Started};
+ghost use Rattle.rounds.specs.Answer.{orBelow, anyBelow, allSmall, taken, whenTaken, keptUnless};
 
 // A set, or none.
 enum Place {
@@ -21,19 +23,47 @@ pub enum Outcome {
     Fixpoint { rounds: u32 },
 }
 
-// The first set whose upper bound is below its lower bound.
-fn first_below(lower: &[u32], upper: &[u32]) -> Place
+fn or_below(found: bool, x: u32, y: u32) -> bool
+    ensures { λ r. ⌜ r ≡ orBelow found x y ⌝ }
+{
+    if found { true } else { x < y }
+}
+
+// Whether an upper bound is below its lower bound; as no turn may end the loop, it is fast.
+fn any_below(lower: &[u32], upper: &[u32]) -> bool
+    requires { ⌜ length (now lower) ≡ length (now upper) ⌝ }
+    ensures { λ r. ⌜ r ≡ anyBelow (now (lower .entry)) (now (upper .entry)) ⌝ }
+{
+    let mut found = false;
+    let mut i = 0;
+    while i < lower.len() {
+        found = or_below(found, upper[i], lower[i]);
+        i += 1;
+    }
+    found
+}
+
+fn search_below(lower: &[u32], upper: &[u32]) -> Place
+    requires { ⌜ length (now lower) ≡ length (now upper) ⌝ }
     ensures { λ r. ⌜ r ≡ placeOf (firstBelow 0 (now (lower .entry)) (now (upper .entry))) ⌝ }
 {
     let mut i = 0;
     while i < lower.len() {
-        if upper.len() <= i {
-            return Place::Nowhere;
-        }
         if upper[i] < lower[i] {
             return Place::At(i);
         }
         i += 1;
+    }
+    Place::Nowhere
+}
+
+// The first set whose upper bound is below its lower bound.
+fn first_below(lower: &[u32], upper: &[u32]) -> Place
+    requires { ⌜ length (now lower) ≡ length (now upper) ⌝ }
+    ensures { λ r. ⌜ r ≡ placeOf (firstBelow 0 (now (lower .entry)) (now (upper .entry))) ⌝ }
+{
+    if any_below(lower, upper) {
+        return search_below(lower, upper);
     }
     Place::Nowhere
 }
@@ -68,40 +98,6 @@ fn all_small(sizes: &[u32]) -> bool
     true
 }
 
-fn shift(first: &mut [u32], second: &mut [u32], third: &[u32])
-    requires { ⌜ length (now first) ≡ length (now second) ⌝ }
-    requires { ⌜ length (now third) ≡ length (now second) ⌝ }
-    ensures { λ _. ⌜ now (first .exit) ≡ now (second .entry) ⌝ }
-    ensures { λ _. ⌜ now (second .exit) ≡ now (third .entry) ⌝ }
-{
-    lowering::copy(second, first);
-    lowering::copy(third, second);
-}
-
-// From `upper` and `next`, which a round has made of it, to `next` and what a round makes of that;
-// `spare` is scratch. True: the two were the same.
-fn again(
-    indexed: bool,
-    limits: &[u32],
-    starts: &[usize],
-    entries: &[usize],
-    upper: &mut [u32],
-    next: &mut [u32],
-    spare: &mut [u32],
-) -> bool
-    requires { ⌜ Known indexed (now limits) (now starts) (now entries) (now upper) (now next) ⌝ }
-    requires { ⌜ length (now upper) ≡ length (now next) ⌝ }
-    requires { ⌜ length (now spare) ≡ length (now next) ⌝ }
-    ensures { λ r. ⌜ r ≡ same (now (next .entry)) (now (upper .entry)) ⌝ }
-    ensures { λ _. ⌜ now (upper .exit) ≡ now (next .entry) ⌝ }
-    ensures { λ _. ⌜ now (next .exit) ≡ round (decode (now (limits .entry))) (now (next .entry)) ⌝ }
-{
-    let done = same(next, upper);
-    dependents::next_round(indexed, limits, starts, entries, upper, next, spare);
-    shift(upper, next, spare);
-    done
-}
-
 // The rounds from the upper bounds `upper`, none of which is below its lower bound; `next` is what a
 // round makes of them. At a fixpoint `upper` holds it.
 fn rounds_from(
@@ -110,13 +106,13 @@ fn rounds_from(
     lower: &[u32],
     starts: &[usize],
     entries: &[usize],
+    changed: &mut [usize],
     upper: &mut [u32],
     next: &mut [u32],
-    spare: &mut [u32],
 ) -> Outcome
     requires { ⌜ Started indexed (now limits) (now lower) (now starts) (now entries) (now upper) (now next) ⌝ }
     requires { ⌜ length (now next) ≡ length (now upper) ⌝ }
-    requires { ⌜ length (now spare) ≡ length (now upper) ⌝ }
+    requires { ⌜ length (now upper) < length (now changed) ⌝ }
     ensures { λ r. ⌜ r ≡ outcomeOf (run (decode (now (limits .entry))) (now (lower .entry)) (now (upper .entry))) ⌝ }
     ensures { λ _.
         ⌜ now (upper .exit)
@@ -128,67 +124,42 @@ fn rounds_from(
         if let Place::At(set) = first_below(lower, next) {
             return Outcome::Unsatisfiable { set, round: n };
         }
-        if again(indexed, limits, starts, entries, upper, next, spare) {
+        if dependents::next_round(indexed, limits, starts, entries, changed, upper, next) {
             break n;
         }
     };
     Outcome::Fixpoint { rounds }
 }
 
-// The rounds from the upper bounds `upper`; the others are scratch. At a fixpoint `upper` holds it.
-fn rounds(
+// The same, with scratch for an index.
+fn rounds_in(
     limits: &[u32],
     lower: &[u32],
     starts: &mut [usize],
     entries: &mut [usize],
+    changed: &mut [usize],
     upper: &mut [u32],
     next: &mut [u32],
-    spare: &mut [u32],
 ) -> Outcome
-    requires { ⌜ Bounds (now lower) (now upper) ⌝ }
-    requires { ⌜ Space (now starts) (now upper) (now next) (now spare) ⌝ }
+    requires { ⌜ Stepped (now limits) (now lower) (now upper) (now next) ⌝ }
+    requires { ⌜ length (now upper) < length (now starts) ⌝ }
+    requires { ⌜ length (now upper) < length (now changed) ⌝ }
     ensures { λ r. ⌜ r ≡ outcomeOf (run (decode (now (limits .entry))) (now (lower .entry)) (now (upper .entry))) ⌝ }
     ensures { λ _.
         ⌜ now (upper .exit)
         ≡ upperOf (run (decode (now (limits .entry))) (now (lower .entry)) (now (upper .entry))) (now (upper .exit)) ⌝ }
 {
-    if let Place::At(set) = first_below(lower, upper) {
-        return Outcome::Unsatisfiable { set, round: 0 };
-    }
     let indexed = dependents::index_sets(limits, upper.len(), starts, entries);
-    lowering::round(limits, upper, next);
-    rounds_from(indexed, limits, lower, starts, entries, upper, next, spare)
-}
-
-// The same, with `upper` written at a fixpoint alone.
-fn run_in(
-    limits: &[u32],
-    lower: &[u32],
-    starts: &mut [usize],
-    entries: &mut [usize],
-    upper: &mut [u32],
-    current: &mut [u32],
-    next: &mut [u32],
-    spare: &mut [u32],
-) -> Outcome
-    requires { ⌜ Bounds (now lower) (now upper) ⌝ }
-    requires { ⌜ Space (now starts) (now upper) (now next) (now spare) ⌝ }
-    requires { ⌜ length (now current) ≡ length (now upper) ⌝ }
-    ensures { λ r. ⌜ r ≡ outcomeOf (run (decode (now (limits .entry))) (now (lower .entry)) (now (upper .entry))) ⌝ }
-    ensures { λ _.
-        ⌜ now (upper .exit)
-        ≡ upperOf (run (decode (now (limits .entry))) (now (lower .entry)) (now (upper .entry))) (now (upper .entry)) ⌝ }
-{
-    lowering::copy(upper, current);
-    let outcome = rounds(limits, lower, starts, entries, current, next, spare);
-    match outcome {
-        Outcome::Fixpoint { rounds: _ } => {
-            lowering::copy(current, upper);
-            outcome
-        }
-        Outcome::Unsatisfiable { set: _, round: _ } => outcome,
-        Outcome::Refused => outcome,
-    }
+    rounds_from(
+        indexed,
+        limits,
+        lower,
+        starts,
+        entries,
+        changed,
+        upper,
+        next,
+    )
 }
 
 // A call's result is a name in what is to be proved; an array written in place is 208 numbers.
@@ -204,59 +175,170 @@ fn indices() -> [usize; 6753] {
     [0usize; 6753]
 }
 
-fn few_indices() -> [usize; 512] {
-    [0usize; 512]
+fn few_sizes() -> [u32; 32] {
+    [0u32; 32]
 }
 
-// The same, with `entries` as room for the index.
-fn settle_in(limits: &[u32], lower: &[u32], upper: &mut [u32], entries: &mut [usize]) -> Outcome
-    requires { ⌜ Bounds (now lower) (now upper) ⌝ }
+fn few_places() -> [usize; 32] {
+    [0usize; 32]
+}
+
+fn few_indices() -> [usize; 128] {
+    [0usize; 128]
+}
+
+fn rounds_large(limits: &[u32], lower: &[u32], upper: &mut [u32], next: &mut [u32]) -> Outcome
+    requires { ⌜ Stepped (now limits) (now lower) (now upper) (now next) ⌝ }
     ensures { λ r. ⌜ r ≡ outcomeOf (run (decode (now (limits .entry))) (now (lower .entry)) (now (upper .entry))) ⌝ }
     ensures { λ _.
         ⌜ now (upper .exit)
-        ≡ upperOf (run (decode (now (limits .entry))) (now (lower .entry)) (now (upper .entry))) (now (upper .entry)) ⌝ }
+        ≡ upperOf (run (decode (now (limits .entry))) (now (lower .entry)) (now (upper .entry))) (now (upper .exit)) ⌝ }
 {
-    let n = upper.len();
     let mut starts = places();
-    let mut current = sizes();
-    let mut next = sizes();
-    let mut spare = sizes();
-    run_in(
+    let mut entries = indices();
+    let mut changed = places();
+    rounds_in(
         limits,
         lower,
         &mut starts,
-        entries,
+        &mut entries,
+        &mut changed,
         upper,
-        &mut current[..n],
-        &mut next[..n],
-        &mut spare[..n],
+        next,
     )
 }
 
-fn settle_large(limits: &[u32], lower: &[u32], upper: &mut [u32]) -> Outcome
-    requires { ⌜ Bounds (now lower) (now upper) ⌝ }
+// With little scratch: clearing much costs more than a small diagram's rounds.
+fn rounds_small(limits: &[u32], lower: &[u32], upper: &mut [u32], next: &mut [u32]) -> Outcome
+    requires { ⌜ Stepped (now limits) (now lower) (now upper) (now next) ⌝ }
+    requires { ⌜ length (now upper) < 32 ⌝ }
     ensures { λ r. ⌜ r ≡ outcomeOf (run (decode (now (limits .entry))) (now (lower .entry)) (now (upper .entry))) ⌝ }
     ensures { λ _.
         ⌜ now (upper .exit)
-        ≡ upperOf (run (decode (now (limits .entry))) (now (lower .entry)) (now (upper .entry))) (now (upper .entry)) ⌝ }
+        ≡ upperOf (run (decode (now (limits .entry))) (now (lower .entry)) (now (upper .entry))) (now (upper .exit)) ⌝ }
 {
-    let mut entries = indices();
-    settle_in(limits, lower, upper, &mut entries)
+    let mut starts = few_places();
+    let mut entries = few_indices();
+    let mut changed = few_places();
+    rounds_in(
+        limits,
+        lower,
+        &mut starts,
+        &mut entries,
+        &mut changed,
+        upper,
+        next,
+    )
+}
+
+// The first round; true: it changes nothing. An index is made only where it does.
+fn first_round(limits: &[u32], upper: &[u32], next: &mut [u32]) -> bool
+    requires { ⌜ length (now upper) ≡ length (now next) ⌝ }
+    requires { ⌜ Small (now upper) ⌝ }
+    ensures { λ r. ⌜ r ≡ same (round (decode (now (limits .entry))) (now (upper .entry))) (now (upper .entry)) ⌝ }
+    ensures { λ _. ⌜ now (next .exit) ≡ round (decode (now (limits .entry))) (now (upper .entry)) ⌝ }
+{
+    lowering::round(limits, upper, next);
+    same(next, upper)
+}
+
+fn start_large(limits: &[u32], lower: &[u32], upper: &mut [u32], next: &mut [u32]) -> Outcome
+    requires { ⌜ Ready (now lower) (now upper) ⌝ }
+    requires { ⌜ length (now upper) ≡ length (now next) ⌝ }
+    ensures { λ r. ⌜ r ≡ outcomeOf (run (decode (now (limits .entry))) (now (lower .entry)) (now (upper .entry))) ⌝ }
+    ensures { λ _.
+        ⌜ now (upper .exit)
+        ≡ upperOf (run (decode (now (limits .entry))) (now (lower .entry)) (now (upper .entry))) (now (upper .exit)) ⌝ }
+{
+    if first_round(limits, upper, next) {
+        return Outcome::Fixpoint { rounds: 1 };
+    }
+    rounds_large(limits, lower, upper, next)
+}
+
+fn start_small(limits: &[u32], lower: &[u32], upper: &mut [u32], next: &mut [u32]) -> Outcome
+    requires { ⌜ Ready (now lower) (now upper) ⌝ }
+    requires { ⌜ length (now upper) ≡ length (now next) ⌝ }
+    requires { ⌜ length (now upper) < 32 ⌝ }
+    ensures { λ r. ⌜ r ≡ outcomeOf (run (decode (now (limits .entry))) (now (lower .entry)) (now (upper .entry))) ⌝ }
+    ensures { λ _.
+        ⌜ now (upper .exit)
+        ≡ upperOf (run (decode (now (limits .entry))) (now (lower .entry)) (now (upper .entry))) (now (upper .exit)) ⌝ }
+{
+    if first_round(limits, upper, next) {
+        return Outcome::Fixpoint { rounds: 1 };
+    }
+    if limits.len() < 128 {
+        return rounds_small(limits, lower, upper, next);
+    }
+    rounds_large(limits, lower, upper, next)
+}
+
+fn settle_large(limits: &[u32], lower: &[u32], upper: &mut [u32]) -> Outcome
+    requires { ⌜ Ready (now lower) (now upper) ⌝ }
+    ensures { λ r. ⌜ r ≡ outcomeOf (run (decode (now (limits .entry))) (now (lower .entry)) (now (upper .entry))) ⌝ }
+    ensures { λ _.
+        ⌜ now (upper .exit)
+        ≡ upperOf (run (decode (now (limits .entry))) (now (lower .entry)) (now (upper .entry))) (now (upper .exit)) ⌝ }
+{
+    let n = upper.len();
+    let mut next = sizes();
+    start_large(limits, lower, upper, &mut next[..n])
 }
 
 fn settle_small(limits: &[u32], lower: &[u32], upper: &mut [u32]) -> Outcome
+    requires { ⌜ Ready (now lower) (now upper) ⌝ }
+    requires { ⌜ length (now upper) < 32 ⌝ }
+    ensures { λ r. ⌜ r ≡ outcomeOf (run (decode (now (limits .entry))) (now (lower .entry)) (now (upper .entry))) ⌝ }
+    ensures { λ _.
+        ⌜ now (upper .exit)
+        ≡ upperOf (run (decode (now (limits .entry))) (now (lower .entry)) (now (upper .entry))) (now (upper .exit)) ⌝ }
+{
+    let n = upper.len();
+    let mut next = few_sizes();
+    start_small(limits, lower, upper, &mut next[..n])
+}
+
+// The rounds from the upper bounds `upper`, where the bounds are known to be taken. At a fixpoint
+// `upper` holds it; where there is none it may have been lowered.
+pub fn settle_over(limits: &[u32], lower: &[u32], upper: &mut [u32]) -> Outcome
     requires { ⌜ Bounds (now lower) (now upper) ⌝ }
+    ensures { λ r. ⌜ r ≡ outcomeOf (run (decode (now (limits .entry))) (now (lower .entry)) (now (upper .entry))) ⌝ }
+    ensures { λ _.
+        ⌜ now (upper .exit)
+        ≡ upperOf (run (decode (now (limits .entry))) (now (lower .entry)) (now (upper .entry))) (now (upper .exit)) ⌝ }
+{
+    if let Place::At(set) = first_below(lower, upper) {
+        return Outcome::Unsatisfiable { set, round: 0 };
+    }
+    if upper.len() < 32 {
+        return settle_small(limits, lower, upper);
+    }
+    settle_large(limits, lower, upper)
+}
+
+// The same on a copy, which is scratch, with `upper` written at a fixpoint alone.
+fn settle_in(limits: &[u32], lower: &[u32], upper: &mut [u32], current: &mut [u32]) -> Outcome
+    requires { ⌜ Bounds (now lower) (now upper) ⌝ }
+    requires { ⌜ length (now current) ≡ length (now upper) ⌝ }
     ensures { λ r. ⌜ r ≡ outcomeOf (run (decode (now (limits .entry))) (now (lower .entry)) (now (upper .entry))) ⌝ }
     ensures { λ _.
         ⌜ now (upper .exit)
         ≡ upperOf (run (decode (now (limits .entry))) (now (lower .entry)) (now (upper .entry))) (now (upper .entry)) ⌝ }
 {
-    let mut entries = few_indices();
-    settle_in(limits, lower, upper, &mut entries)
+    lowering::copy(upper, current);
+    let outcome = settle_over(limits, lower, current);
+    match outcome {
+        Outcome::Fixpoint { rounds: _ } => {
+            lowering::copy(current, upper);
+            outcome
+        }
+        Outcome::Unsatisfiable { set: _, round: _ } => outcome,
+        Outcome::Refused => outcome,
+    }
 }
 
-// The same with scratch of its own, little of it for few limits, where the bounds are known to be
-// taken.
+// The same with scratch of its own.
 pub fn settle(limits: &[u32], lower: &[u32], upper: &mut [u32]) -> Outcome
     requires { ⌜ Bounds (now lower) (now upper) ⌝ }
     ensures { λ r. ⌜ r ≡ outcomeOf (run (decode (now (limits .entry))) (now (lower .entry)) (now (upper .entry))) ⌝ }
@@ -264,10 +346,9 @@ pub fn settle(limits: &[u32], lower: &[u32], upper: &mut [u32]) -> Outcome
         ⌜ now (upper .exit)
         ≡ upperOf (run (decode (now (limits .entry))) (now (lower .entry)) (now (upper .entry))) (now (upper .entry)) ⌝ }
 {
-    if limits.len() < 512 {
-        return settle_small(limits, lower, upper);
-    }
-    settle_large(limits, lower, upper)
+    let n = upper.len();
+    let mut current = sizes();
+    settle_in(limits, lower, upper, &mut current[..n])
 }
 
 // Lowers the upper bounds to the fixpoint of the limits. Refused are upper bounds above 4096, more

@@ -1,7 +1,7 @@
--- `bounds::check_in` meets its contract. The fronts of the scratch hold the diagram's bounds.
+-- `bounds::check_in` meets its contract. The front of the scratch holds the diagram's upper bounds.
 -- Assumes nothing.
 use Rattle.table.specs.Laws.Valid.{valid-walkable}
-use Rattle.bounds.proofs.Tables.{front-count, lower-within, upper-within, check-bounds, checked}
+use Rattle.bounds.proofs.Tables.{front-count, upper-within, check-bounds, checked}
 use borrow.Author.Needs.{needs}
 use Rattle.bounds.proofs.check_in.Statement.{statement}
 use Rattle.bounds.proofs.check_in.Tie as tie
@@ -11,13 +11,9 @@ check-in-spec =
     tie.close
     (tie.spec
     (λ c κs. search (needs, valid-walkable))
-    (λ c κs. search (needs, valid-walkable))
-    (λ c. search (needs, lower-within))
-    (λ c. search (needs, front-count, lower-within))
     (λ c. search (needs, upper-within))
     (λ c. search (needs, front-count, upper-within))
     (λ c κs. search (needs, check-bounds))
-    (λ c. search needs)
     (λ c. search needs)
     (λ c. search needs)
     (λ c. search (needs, checked)))

@@ -1,6 +1,6 @@
--- `rounds::settle_in` meets its contract. The parts lent have the length of `upper`.
+-- `rounds::settle_in` meets its contract. The outcome says which verdict the run came to, and so which upper bounds it leaves.
 -- Assumes nothing.
-use Rattle.rounds.proofs.Ends.{part-long, part-count, part-space}
+use Rattle.rounds.proofs.Ends.{bounds-as, ran, ran-fixpoint, ran-unsatisfiable, ran-refused}
 use borrow.Author.Needs.{needs}
 use Rattle.rounds.proofs.settle_in.Statement.{statement}
 use Rattle.rounds.proofs.settle_in.Tie as tie
@@ -10,17 +10,17 @@ settle-in-spec =
     tie.close
     (tie.spec
     (λ c κs. search needs)
+    (λ c κs. search (needs, bounds-as))
+    (λ c. search needs)
     (λ c κs. search needs)
-    (λ c κs. search needs)
-    (λ c κs. search needs)
-    (λ c. search (needs, part-count))
-    (λ c. search needs)
-    (λ c. search (needs, part-count))
-    (λ c. search needs)
-    (λ c. search (needs, part-count))
-    (λ c. search needs)
-    (λ c. search (needs, part-count))
-    (λ c κs. (search needs, (search (needs, part-space), search (needs, part-long))))
     (λ c. search needs)
     (λ c. search needs)
-    (λ c. search needs))
+    (λ c. search needs)
+    (λ c. search needs)
+    (λ c. search (needs, ran, ran-fixpoint))
+    (λ c. search needs)
+    (λ c. search needs)
+    (λ c. search (needs, ran, ran-unsatisfiable))
+    (λ c. search needs)
+    (λ c. search needs)
+    (λ c. search (needs, ran, ran-refused)))

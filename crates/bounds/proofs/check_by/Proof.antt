@@ -1,0 +1,22 @@
+-- `bounds::check_by` meets its contract. There is room for the sets of every diagram.
+-- Assumes nothing.
+use Rattle.table.specs.Laws.Valid.{valid-walkable}
+use Rattle.bounds.proofs.Tables.{front-count, lower-within, lower-whole}
+use borrow.Author.Needs.{needs}
+use Rattle.bounds.proofs.check_by.Statement.{statement}
+use Rattle.bounds.proofs.check_by.Tie as tie
+
+pub check-by-spec : {M : Type 1} → statement M
+check-by-spec =
+    tie.close
+    (tie.spec
+    (λ c κs. search needs)
+    (λ c κs. search needs)
+    (λ c. search needs)
+    (λ c κs. search (needs, valid-walkable))
+    (λ c. search (needs, lower-within))
+    (λ c. search (needs, front-count, lower-within))
+    (λ c. search needs)
+    (λ c κs. search (needs, lower-whole))
+    (λ c. search needs)
+    (λ c. search needs))

@@ -3,9 +3,9 @@ use Prim.Native.Nat.{ℕ, suc, _≤_, _<_}
 use native.Mathlib.Omega.{arith}
 use mathlib.Core.Path.{_≡_, refl, sym, ap, _∙_}
 use mathlib.Core.List.{List}
-use lib.ListN.{length, take}
+use lib.ListN.{length, take, length-map}
 use lib.Seq.{length-take-le}
-use Rattle.orm.specs.Diagram.{Diagram}
+use Rattle.orm.specs.Diagram.{Role, Diagram, allRoles}
 use Rattle.orm.specs.Text.{tableLine}
 use Rattle.orm.specs.Sets.{lower, upper, limits, verdict}
 use Rattle.orm.specs.Outcome.{Outcome, refused, accepted, _>>=_, fitted, bufferAfter, Sized, written, handedBack}
@@ -24,6 +24,8 @@ use Rattle.table.specs.Positions.{diagramOf}
 use Rattle.table.specs.Valid.{Valid}
 use Rattle.table.specs.Laws.Valid.{accepted-valid}
 use Rattle.lowering.specs.Laws.Decoding.{decode-encode}
+use Rattle.selection.specs.Selected.{typesOf}
+use Rattle.limits.specs.Single.{Types}
 use Rattle.limits.specs.Laws.Room.{start-bounds, as-many, limits-fit, lower-fits}
 use Rattle.bounds.specs.Answer.{checkOf, ended, Answered, Limits, Lowers, FewLowers}
 use Rattle.bounds.specs.declared.CheckAnswer.{CheckAnswer}
@@ -101,6 +103,18 @@ module _ {t : List ℕ} (v : Valid t) where
 
   pub limits-whole : {l l′ : List ℕ} {m : ℕ} → length l ≡ 6752 → Wrote l 0 (encode (limits (diagramOf t))) l′ m → Limits t (take m l′)
   limits-whole h w = record { are = wrote-front w (omega (arith, limits-fit (diagramOf t) (v .formed))) }
+
+  -- the types of all roles
+  roles-few : length (typesOf (allRoles (diagramOf t))) ≤ 96
+  roles-few = omega (arith, length-map (allRoles (diagramOf t)) (λ (r : Role). r .type), v .formed .roleCount)
+
+  pub types-within : {a a′ : List ℕ} {n : ℕ} → length a ≡ 96 → Wrote a 0 (typesOf (allRoles (diagramOf t))) a′ n → n ≤ length a′
+  types-within h w = wrote-within w (omega (arith, roles-few))
+
+  pub types-whole : {a a′ : List ℕ} {n : ℕ} → length a ≡ 96 → Wrote a 0 (typesOf (allRoles (diagramOf t))) a′ n → Types t (take n a′)
+  types-whole {a} {a′} {n} h w =
+      let e : take n a′ ≡ typesOf (allRoles (diagramOf t)) = wrote-front w (omega (arith, roles-few)) in
+      record { are = e; few = rw e roles-few }
 
   -- the lower bounds, where there was room for those of every diagram
   pub lower-within : {a a′ : List ℕ} {n : ℕ} → length a ≡ 208 → Wrote a 0 (lower (diagramOf t)) a′ n → n ≤ length a′

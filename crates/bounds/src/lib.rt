@@ -6,6 +6,7 @@ ghost use Rattle.fixpoint.specs.Limits.{fixpoint, run};
 ghost use Rattle.lowering.specs.Encoding.{decode};
 ghost use Rattle.rounds.specs.Answer.{Bounds};
 ghost use Rattle.table.specs.Valid.{Valid};
+ghost use Rattle.limits.specs.Single.{Types};
 ghost use Rattle.orm.specs.Outcome.{bufferAfter, written, handedBack};
 ghost use Rattle.orm.specs.Calls.{checkCall};
 ghost use Rattle.bounds.specs.Answer.{checkOf, ended, Answered, Limits, Lowers, FewLowers};
@@ -80,6 +81,10 @@ fn set_space() -> [u32; 208] {
     [0u32; 208]
 }
 
+fn role_space() -> [u32; 96] {
+    [0u32; 96]
+}
+
 fn few_limits() -> [u32; 128] {
     [0u32; 128]
 }
@@ -101,12 +106,13 @@ fn check_by(table: &[u32], limits: &[u32], sizes: &mut [u32]) -> CheckAnswer
 }
 
 // With room for the limits of every diagram.
-fn check_large(table: &[u32], sizes: &mut [u32]) -> CheckAnswer
+fn check_large(table: &[u32], types: &[u32], sizes: &mut [u32]) -> CheckAnswer
     requires { ⌜ Valid (now table) ⌝ }
+    requires { ⌜ Types (now table) (now types) ⌝ }
     ensures { λ r. ⌜ Answered (checkCall (now (table .entry)) (length (now (sizes .entry)))) r (now (sizes .entry)) (now (sizes .exit)) ⌝ }
 {
     let mut limits = limit_space();
-    let m = limits::write_limits(table, &mut limits);
+    let m = limits::write_limits(table, types, &mut limits);
     check_by(table, &limits[..m], sizes)
 }
 
@@ -122,30 +128,42 @@ fn check_few(table: &[u32], limits: &[u32], lower: &[u32], sizes: &mut [u32]) ->
 }
 
 // With room for few limits.
-fn check_small(table: &[u32], lower: &[u32], sizes: &mut [u32]) -> CheckAnswer
+fn check_small(table: &[u32], types: &[u32], lower: &[u32], sizes: &mut [u32]) -> CheckAnswer
     requires { ⌜ Valid (now table) ⌝ }
+    requires { ⌜ Types (now table) (now types) ⌝ }
     requires { ⌜ FewLowers (now table) (now lower) ⌝ }
     ensures { λ r. ⌜ Answered (checkCall (now (table .entry)) (length (now (sizes .entry)))) r (now (sizes .entry)) (now (sizes .exit)) ⌝ }
 {
     let mut limits = few_limits();
-    let m = limits::write_limits(table, &mut limits);
+    let m = limits::write_limits(table, types, &mut limits);
     if m < 128 {
         return check_few(table, &limits[..m], lower, sizes);
     }
-    check_large(table, sizes)
+    check_large(table, types, sizes)
 }
 
 // With little room first: clearing much costs more than a small diagram's rounds.
-fn check_valid(table: &[u32], sizes: &mut [u32]) -> CheckAnswer
+fn check_typed(table: &[u32], types: &[u32], sizes: &mut [u32]) -> CheckAnswer
     requires { ⌜ Valid (now table) ⌝ }
+    requires { ⌜ Types (now table) (now types) ⌝ }
     ensures { λ r. ⌜ Answered (checkCall (now (table .entry)) (length (now (sizes .entry)))) r (now (sizes .entry)) (now (sizes .exit)) ⌝ }
 {
     let mut lower = few_sets();
     let n = limits::write_lower(table, &mut lower);
     if n < 32 {
-        return check_small(table, &lower[..n], sizes);
+        return check_small(table, types, &lower[..n], sizes);
     }
-    check_large(table, sizes)
+    check_large(table, types, sizes)
+}
+
+// The types of all roles are written once, as every type's limit asks for them.
+fn check_valid(table: &[u32], sizes: &mut [u32]) -> CheckAnswer
+    requires { ⌜ Valid (now table) ⌝ }
+    ensures { λ r. ⌜ Answered (checkCall (now (table .entry)) (length (now (sizes .entry)))) r (now (sizes .entry)) (now (sizes .exit)) ⌝ }
+{
+    let mut types = role_space();
+    let n = limits::write_types(table, &mut types);
+    check_typed(table, &types[..n], sizes)
 }
 
 // Writes the sizes of the sets of a table's diagram, in set order.

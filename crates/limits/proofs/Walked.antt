@@ -4,7 +4,7 @@ use native.Mathlib.Numerals.{add-one}
 use native.Mathlib.Omega.{arith}
 use mathlib.Core.Path.{_≡_, refl, sym, ap, ap₂, _∙_}
 use mathlib.Core.Bool.{Bool, not}
-use mathlib.Core.List.{List, [], _∷_, _++_, flatMap, flatten, append-nil}
+use mathlib.Core.List.{List, [], _∷_, _++_, flatMap, flatten, append-nil, map-append}
 use lib.Dec.{eqb}
 use lib.ListN.{length, getD, drop, length-append}
 use lib.Seq.{drop-drop}
@@ -19,12 +19,12 @@ use Rattle.buffer.specs.Written.{Wrote, Writing, Splits}
 use Rattle.buffer.specs.Laws.{wrote-then, wrote-as, writing-start}
 use Rattle.table.specs.Positions.{each, typesIn, rolesIn, groupsIn, predsIn, predLength, typeCount, predCount, firstPredAt, diagramOf}
 use Rattle.table.specs.Laws.Walks.{each-more, each-none, each-length, preds-more, preds-none}
-use Rattle.table.specs.Cursors.{placedAt, placedLeft, firstCursor, nextCursor}
+use Rattle.table.specs.Cursors.{placedAt, placedLeft, firstCursor, nextCursor, Reach}
 use Rattle.table.specs.Laws.Cursors.{placed-start, placed-more, placed-none}
 use Rattle.table.specs.declared.Cursor.{Cursor}
-use Rattle.selection.specs.Selected.{has}
-use Rattle.limits.specs.Single.{limitOfPlayed}
-use Rattle.selection.specs.Laws.Selects.{select-append, select-length}
+use Rattle.selection.specs.Selected.{typesOf, positions}
+use Rattle.limits.specs.Single.{limitOfTypes, Types, Played}
+use Rattle.selection.specs.Laws.Selects.{positions-select, positions-length}
 use Rattle.lowering.specs.Laws.Decoding.{encode-append}
 
 -- ---- the limits of each line, numbered from `i`
@@ -108,84 +108,62 @@ module _ (t : List ℕ) where
     unfolding flatMap encode
     limits-none h = ap (λ (l : List Placed). encode (flatMap limitsOfPred l)) (placed-none t x n h)
 
--- ---- the roles that a type plays
+-- ---- the types of all roles
 
--- those of so many predicates, the first of whose roles has the set `i`
-unfoldable pub playing : ℕ → ℕ → List Predicate → List ℕ
-playing number i ps = select (has 0 number) i (flatMap (λ (p : Predicate). p .roles) ps)
+abbrev pub typesWithin : List Predicate → List ℕ
+typesWithin ps = typesOf (flatMap (λ (p : Predicate). p .roles) ps)
 
-module _ (t : List ℕ) (number : ℕ) where
-  pub playing-start : (o : List ℕ) (at : ℕ) {x : Cursor} {n : ℕ} → x ≡ firstCursor t → n ≡ predCount t
-      → Writing o at (rolesOfType (diagramOf t) number) o at (playing number (x .roles) (predsIn n (drop (x .at) t)))
-  unfolding rolesOfType allRoles diagramOf playing
-  playing-start o at ex en = rw (ex, en) (writing-start o at (rolesOfType (diagramOf t) number))
+module _ (t : List ℕ) where
+  pub played-start : (o : List ℕ) (at : ℕ) {p n : ℕ} → p ≡ firstPredAt t → n ≡ predCount t
+      → Writing o at (typesOf (allRoles (diagramOf t))) o at (typesWithin (predsIn n (drop p t)))
+  unfolding allRoles diagramOf
+  played-start o at ep en = rw (ep, en) (writing-start o at (typesOf (allRoles (diagramOf t))))
 
-  playing-cons : (i at n : ℕ) {e : ℕ} → 0 < n → e ≡ at + predLength (drop at t)
-      → playing number i (predsIn n (drop at t))
-      ≡ select (has 0 number) i (rolesIn (getD (drop at t) 2 0) (drop (at + 4) t)) ++ playing number (i + getD (drop at t) 2 0)
-      (predsIn (n - 1) (drop e t))
-  unfolding playing flatMap
-  playing-cons i at n {e} h ee =
-      let s : List ℕ = drop at t in
-      let rest : List Role = flatMap (λ (p : Predicate). p .roles) (predsIn (n - 1) (drop e t)) in
-      ap (playing number i) (preds-more t at n h ee)
-      ∙ select-append (has 0 number) i (rolesIn (getD s 2 0) (drop 4 s)) rest
-      ∙ ap₂ {C = List ℕ} (λ a m. select (has 0 number) i (rolesIn (getD s 2 0) a) ++ select (has 0 number) (i + m) rest) (drop-drop 4 at t)
-      (each-length roleOf 3 (getD s 2 0) (drop 4 s))
+  module _ (p n : ℕ) where
+    pub played-more : {e r : ℕ} → 0 < n → e ≡ p + predLength (drop p t) → r ≡ getD (drop p t) 2 0
+        → Splits (typesWithin (predsIn n (drop p t))) (typesOf (rolesIn r (drop (p + 4) t))) (typesWithin (predsIn (n - 1) (drop e t)))
+    unfolding flatMap
+    played-more {e} {r} h ee er =
+        let s : List ℕ = drop p t in
+        let rest : List Role = flatMap (λ (q : Predicate). q .roles) (predsIn (n - 1) (drop e t)) in
+        record {
+          is =
+              ap typesWithin (preds-more t p n h ee) ∙ map-append (λ (q : Role). q .type) (rolesIn (getD s 2 0) (drop 4 s)) rest
+              ∙ ap₂ {C = List ℕ} (λ m a. typesOf (rolesIn m a) ++ typesOf rest) (sym er) (drop-drop 4 p t);
+        }
 
-  module _ (x : Cursor) (n : ℕ) where
-    pub playing-more : {y : Cursor} {r : ℕ} → 0 < n → y ≡ nextCursor t x → r ≡ getD (drop (x .at) t) 2 0
-        → Splits (playing number (x .roles) (predsIn n (drop (x .at) t)))
-        (select (has 0 number) (x .roles) (rolesIn r (drop (x .at + 4) t)))
-        (playing number (y .roles) (predsIn (n - 1) (drop (y .at) t)))
-    playing-more h e er = record { is = rw (e, er) (playing-cons (x .roles) (x .at) n h refl) }
+    pub played-none : n ≤ 0 → typesWithin (predsIn n (drop p t)) ≡ []
+    unfolding flatMap
+    played-none h = ap typesWithin (preds-none n (drop p t) h)
 
-    pub playing-none : n ≤ 0 → playing number (x .roles) (predsIn n (drop (x .at) t)) ≡ []
-    unfolding playing flatMap select
-    playing-none h = ap (playing number (x .roles)) (preds-none n (drop (x .at) t) h)
-
-  -- counted
-  module _ {at n : ℕ} where
-    pub played-start : at ≡ firstPredAt t → n ≡ predCount t
-        → 0 + length (playing number 0 (predsIn n (drop at t))) ≡ length (rolesOfType (diagramOf t) number)
-    unfolding rolesOfType allRoles diagramOf playing
-    played-start ea en = rw (ea, en) (omega (arith, select-length (has 0 number) 0 (firstRole (diagramOf t)) (allRoles (diagramOf t))))
-
-  module _ (at n m : ℕ) {total : ℕ} (w : m + length (playing number 0 (predsIn n (drop at t))) ≡ total) where
-    pub played-more : {e r k : ℕ} → 0 < n → e ≡ at + predLength (drop at t) → r ≡ getD (drop at t) 2 0
-        → k ≡ length (select (has 0 number) 0 (rolesIn r (drop (at + 4) t)))
-        → (m + k) + length (playing number 0 (predsIn (n - 1) (drop e t))) ≡ total
-    unfolding playing
-    played-more {e} {r} {k} h ee er ek =
-        let rest : List Role = flatMap (λ (p : Predicate). p .roles) (predsIn (n - 1) (drop e t)) in
-        let here : List ℕ = select (has 0 number) 0 (rolesIn r (drop (at + 4) t)) in
-        let split : length (playing number 0 (predsIn n (drop at t))) ≡ length (here ++ select (has 0 number) (0 + r) rest) =
-        rw er (ap length (playing-cons 0 at n h ee)) in
-        omega (arith, split, length-append here (select (has 0 number) (0 + r) rest), select-length (has 0 number) (0 + r) 0 rest, ek, w)
-
-    pub played-all : n ≤ 0 → m ≡ total
-    unfolding playing flatMap select
-    played-all h = let none : length (playing number 0 (predsIn n (drop at t))) ≡ 0 = ap (λ (ps : List Predicate). length (playing number 0 ps))
-        (preds-none n (drop at t) h) in omega (arith, none, w)
+  pub cursor-played : (types : List ℕ) {x : Cursor} → x ≡ firstCursor t → Reach x 32 → Types t types → Played t types (x .roles)
+  cursor-played types e r w = record { known = w; starts = ap (λ (y : Cursor). y .roles) e; small = omega (arith, r .roles, w .few) }
 
 -- ---- types
 
-module _ (d : Diagram) (a : ℕ) {o o₁ o₂ : List ℕ} {at b c : ℕ} where
-  pub sum-is : {n number : ℕ} → number ≡ a + 1 → n ≡ length (rolesOfType d number) → Wrote o at (1 ∷ a ∷ 0 ∷ n ∷ []) o₁ b
-      → Wrote o₁ b (rolesOfType d number) o₂ c → Wrote o at (encode (limitOfPlayed d a ∷ [])) o₂ c
+played-is : (t types : List ℕ) (first a : ℕ) → Played t types first → positions (suc a) first types ≡ rolesOfType (diagramOf t) (suc a)
+unfolding rolesOfType
+played-is t types first a w =
+    rw (w .known .are, w .starts) (positions-select (suc a) (firstRole (diagramOf t)) (allRoles (diagramOf t)))
+
+module _ (types : List ℕ) (first a : ℕ) {o o₁ o₂ : List ℕ} {at b c : ℕ} where
+  pub sum-is : {n number : ℕ} → number ≡ a + 1 → n ≡ length (positions number 0 types) → Wrote o at (1 ∷ a ∷ 0 ∷ n ∷ []) o₁ b
+      → Wrote o₁ b (positions number first types) o₂ c → Wrote o at (encode (limitOfTypes types first a ∷ [])) o₂ c
   unfolding encode encodeExpr
   sum-is {n} {number} e en w v =
       let e′ : number ≡ suc a = e ∙ add-one a in
-      wrote-as (wrote-then w v) (rw (en, e′) (sym (append-nil (1 ∷ a ∷ 0 ∷ length (rolesOfType d (suc a)) ∷ rolesOfType d (suc a)))))
+      let ps : List ℕ = positions (suc a) first types in
+      wrote-as (wrote-then w v) (rw (en, positions-length number 0 first types, e′) (sym (append-nil (1 ∷ a ∷ 0 ∷ length ps ∷ ps))))
 
-  pub type-is : (s : List ℕ) {super indep set : ℕ} {subtype dependent : Bool} → super ≡ getD s 4 0 → set ≡ super - 1
+  pub type-is : (t s : List ℕ) {super indep set : ℕ} {subtype dependent : Bool} → Played t types first → super ≡ getD s 4 0 → set ≡ super - 1
       → subtype ≡ not (eqb super 0) → indep ≡ getD s 5 0 → dependent ≡ not (eqb indep 1)
-      → Wrote o at (encode (onlyIf subtype (atMost a set))) o₁ b → Wrote o₁ b (encode (onlyIf dependent (limitOfPlayed d a))) o₂ c
-      → Wrote o at (encode (limitsOfType d a (typeOf s))) o₂ c
+      → Wrote o at (encode (onlyIf subtype (atMost a set))) o₁ b → Wrote o₁ b (encode (onlyIf dependent (limitOfTypes types first a))) o₂ c
+      → Wrote o at (encode (limitsOfType (diagramOf t) a (typeOf s))) o₂ c
   unfolding limitsOfType isRoot isIndependent
-  type-is s {super} {indep} {set} {subtype} {dependent} es eset eb ei eo w v =
+  type-is t s {super} {indep} {set} {subtype} {dependent} p es eset eb ei eo w v =
       wrote-as (wrote-then w v)
-      (sym (encode-append (onlyIf subtype (atMost a set)) (onlyIf dependent (limitOfPlayed d a))) ∙ rw (eb, eo, eset, es, ei))
+      (sym (encode-append (onlyIf subtype (atMost a set)) (onlyIf dependent (limitOfTypes types first a)))
+      ∙ rw (played-is t types first a p, eb, eo, eset, es, ei))
 
 module _ (t : List ℕ) where
   pub types-start : (o : List ℕ) (at : ℕ) {n : ℕ} → n ≡ typeCount t

@@ -7,15 +7,16 @@ ghost use Prim.Native.Nat.{_+_, _-_, _≤_, _<_};
 ghost use lib.Dec.{eqb};
 ghost use lib.ListN.{length, drop};
 ghost use Rattle.counting.specs.Lists.{upFrom, mapFrom};
-ghost use Rattle.orm.specs.Diagram.{ObjectType, Predicate};
+ghost use Rattle.orm.specs.Diagram.{ObjectType, Predicate, allRoles};
 ghost use Rattle.orm.specs.Form.{typeOf, roleOf, groupOf};
 ghost use Rattle.orm.specs.Sets.{lower, upper, upperOfType, select, groupRoles, atMost, onlyIf, limitsOfRole, limitsOfGroup};
-ghost use Rattle.orm.specs.Sets.{limitOfRows, limitsOfPred, limitsOfType, limits, placed, rolesOfType};
+ghost use Rattle.orm.specs.Sets.{limitOfRows, limitsOfPred, limitsOfType, limits, placed};
+ghost use Rattle.selection.specs.Selected.{typesOf};
 ghost use Rattle.lowering.specs.Encoding.{encode};
 ghost use Rattle.buffer.specs.Written.{Wrote};
 ghost use Rattle.table.specs.Positions.{rolesIn, diagramOf, Walkable};
 ghost use Rattle.table.specs.Cursors.{placedAt, Reach};
-ghost use Rattle.limits.specs.Single.{limitOfGroup, limitOfPlayed};
+ghost use Rattle.limits.specs.Single.{limitOfGroup, limitOfTypes, Played, Types};
 
 // How many values first..last are; at least 1.
 fn values(first: u32, last: u32) -> u32
@@ -313,62 +314,60 @@ fn push_preds(t: &[u32], out: &mut [u32], at: usize) -> usize
     to
 }
 
-// The sets of the roles that the type with this number plays.
-fn push_played(t: &[u32], number: u32, out: &mut [u32], at: usize) -> usize
+// The types of all roles.
+pub fn write_types(t: &[u32], out: &mut [u32]) -> usize
     requires { ⌜ Walkable (now t) ⌝ }
-    ensures { λ r. ⌜ Wrote (now (out .entry)) at (rolesOfType (diagramOf (now (t .entry))) number) (now (out .exit)) r ⌝ }
+    ensures { λ r. ⌜ Wrote (now (out .entry)) 0 (typesOf (allRoles (diagramOf (now (t .entry))))) (now (out .exit)) r ⌝ }
 {
     let mut left = table::pred_count(t);
-    let mut x = table::first_cursor(t);
-    let mut to = at;
+    let mut q = table::first_pred(t);
+    let mut to = 0;
     while 0 < left {
-        let count = table::field(t, x.at, 2);
-        to = selection::push_roles(t, x.at + 4, count, x.roles, 0, number, out, to);
-        x = table::next_cursor(t, x);
+        let count = table::field(t, q, 2);
+        to = selection::push_types(t, q + 4, count, out, to);
+        q = table::pred_end(t, q);
         left -= 1;
     }
     to
 }
 
-fn count_played(t: &[u32], number: u32) -> u32
-    requires { ⌜ Walkable (now t) ⌝ }
-    ensures { λ r. ⌜ r ≡ length (rolesOfType (diagramOf (now (t .entry))) number) ⌝ }
-{
-    let mut left = table::pred_count(t);
-    let mut q = table::first_pred(t);
-    let mut n: u32 = 0;
-    while 0 < left {
-        let count = table::field(t, q, 2);
-        n += selection::count_roles(t, q + 4, count, 0, number);
-        q = table::pred_end(t, q);
-        left -= 1;
-    }
-    n
-}
-
-// The sum of the roles that the type with the set a plays, as its limit.
-fn push_sum(t: &[u32], a: u32, out: &mut [u32], at: usize) -> usize
-    requires { ⌜ Walkable (now t) ⌝ }
+// The sum of the roles that the type with the set a plays, as its limit; `types` are those of all
+// roles, and `first` is the first role's set.
+fn push_sum(types: &[u32], first: u32, a: u32, out: &mut [u32], at: usize) -> usize
+    requires { ⌜ first + length (now types) ≤ 300000000 ⌝ }
     requires { ⌜ a ≤ 32 ⌝ }
-    ensures { λ r. ⌜ Wrote (now (out .entry)) at (encode (limitOfPlayed (diagramOf (now (t .entry))) a ∷ [])) (now (out .exit)) r ⌝ }
+    ensures { λ r. ⌜ Wrote (now (out .entry)) at (encode (limitOfTypes (now (types .entry)) first a ∷ [])) (now (out .exit)) r ⌝ }
 {
     let number = a + 1;
-    let b = header(out, at, 1, a, 0, count_played(t, number));
-    push_played(t, number, out, b)
+    let b = header(out, at, 1, a, 0, selection::count_of_type(types, number));
+    selection::push_of_type(types, number, first, out, b)
 }
 
-fn push_sum_if(t: &[u32], yes: bool, a: u32, out: &mut [u32], at: usize) -> usize
-    requires { ⌜ Walkable (now t) ⌝ }
+fn push_sum_if(types: &[u32], first: u32, yes: bool, a: u32, out: &mut [u32], at: usize) -> usize
+    requires { ⌜ first + length (now types) ≤ 300000000 ⌝ }
     requires { ⌜ a ≤ 32 ⌝ }
     ensures { λ r.
-        ⌜ Wrote (now (out .entry)) at (encode (onlyIf yes (limitOfPlayed (diagramOf (now (t .entry))) a))) (now (out .exit)) r ⌝ }
+        ⌜ Wrote (now (out .entry)) at (encode (onlyIf yes (limitOfTypes (now (types .entry)) first a))) (now (out .exit)) r ⌝ }
 {
-    if yes { push_sum(t, a, out, at) } else { at }
+    if yes {
+        push_sum(types, first, a, out, at)
+    } else {
+        at
+    }
 }
 
 // The limits of the type at position q, whose set is a.
-fn push_type(t: &[u32], a: u32, q: usize, out: &mut [u32], at: usize) -> usize
+fn push_type(
+    t: &[u32],
+    types: &[u32],
+    first: u32,
+    a: u32,
+    q: usize,
+    out: &mut [u32],
+    at: usize,
+) -> usize
     requires { ⌜ Walkable (now t) ⌝ }
+    requires { ⌜ Played (now t) (now types) first ⌝ }
     requires { ⌜ a ≤ 32 ⌝ }
     ensures { λ r.
         ⌜ Wrote (now (out .entry)) at (encode (limitsOfType (diagramOf (now (t .entry))) a (typeOf (drop q (now (t .entry))))))
@@ -382,11 +381,19 @@ fn push_type(t: &[u32], a: u32, q: usize, out: &mut [u32], at: usize) -> usize
         a,
         selection::less_one(super_type),
     );
-    push_sum_if(t, selection::differ(table::field(t, q, 5), 1), a, out, b)
+    push_sum_if(
+        types,
+        first,
+        selection::differ(table::field(t, q, 5), 1),
+        a,
+        out,
+        b,
+    )
 }
 
-fn push_types(t: &[u32], out: &mut [u32], at: usize) -> usize
+fn push_types(t: &[u32], types: &[u32], first: u32, out: &mut [u32], at: usize) -> usize
     requires { ⌜ Walkable (now t) ⌝ }
+    requires { ⌜ Played (now t) (now types) first ⌝ }
     ensures { λ r.
         ⌜ Wrote (now (out .entry)) at
         (encode (flatten (mapFrom (limitsOfType (diagramOf (now (t .entry)))) 0 (diagramOf (now (t .entry)) .types)))) (now (out .exit)) r ⌝ }
@@ -396,7 +403,7 @@ fn push_types(t: &[u32], out: &mut [u32], at: usize) -> usize
     let mut a: u32 = 0;
     let mut to = at;
     while 0 < left {
-        to = push_type(t, a, q, out, to);
+        to = push_type(t, types, first, a, q, out, to);
         q += 6;
         a += 1;
         left -= 1;
@@ -404,11 +411,13 @@ fn push_types(t: &[u32], out: &mut [u32], at: usize) -> usize
     to
 }
 
-// The limits of all sets.
-pub fn write_limits(t: &[u32], out: &mut [u32]) -> usize
+// The limits of all sets, with the types of all roles at hand.
+pub fn write_limits(t: &[u32], types: &[u32], out: &mut [u32]) -> usize
     requires { ⌜ Walkable (now t) ⌝ }
+    requires { ⌜ Types (now t) (now types) ⌝ }
     ensures { λ r. ⌜ Wrote (now (out .entry)) 0 (encode (limits (diagramOf (now (t .entry))))) (now (out .exit)) r ⌝ }
 {
+    let x = table::first_cursor(t);
     let a = push_preds(t, out, 0);
-    push_types(t, out, a)
+    push_types(t, types, x.roles, out, a)
 }

@@ -10,7 +10,7 @@ ghost use Rattle.orm.specs.Sets.{select, groupRoles};
 ghost use Rattle.buffer.specs.Written.{Wrote};
 ghost use Rattle.table.specs.Positions.{rolesIn, Walkable};
 ghost use Rattle.table.specs.Cursors.{placedAt, Reach};
-ghost use Rattle.selection.specs.Selected.{when, has, Bounded};
+ghost use Rattle.selection.specs.Selected.{when, has, typesOf, positions, Bounded};
 
 // ---- single numbers
 
@@ -41,7 +41,7 @@ fn push_if(out: &mut [u32], at: usize, yes: bool, x: u32) -> usize
 }
 
 fn add_if(n: u32, yes: bool) -> u32
-    requires { ⌜ n ≤ 100000000 ⌝ }
+    requires { ⌜ n ≤ 300000000 ⌝ }
     ensures { λ r. ⌜ r ≡ n + length (when yes 0) ⌝ }
     ensures { λ r. ⌜ r ≤ n + 1 ⌝ }
 {
@@ -114,6 +114,59 @@ pub fn count_roles(t: &[u32], q: usize, count: u32, i: usize, number: u32) -> u3
     }
     n
 }
+
+// The types of the `count` roles from position q on.
+pub fn push_types(t: &[u32], q: usize, count: u32, out: &mut [u32], at: usize) -> usize
+    requires { ⌜ Walkable (now t) ⌝ }
+    requires { ⌜ Bounded q count 0 0 ⌝ }
+    ensures { λ r. ⌜ Wrote (now (out .entry)) at (typesOf (rolesIn count (drop q (now (t .entry))))) (now (out .exit)) r ⌝ }
+{
+    let mut left = count;
+    let mut p = q;
+    let mut to = at;
+    while 0 < left {
+        to = buffer::push(out, to, table::field(t, p, 0));
+        p += 3;
+        left -= 1;
+    }
+    to
+}
+
+// ---- roles by their types
+
+// The sets of those of the type with this number; `first` is the first role's set.
+pub fn push_of_type(types: &[u32], number: u32, first: u32, out: &mut [u32], at: usize) -> usize
+    requires { ⌜ first + length (now types) ≤ 300000000 ⌝ }
+    ensures { λ r. ⌜ Wrote (now (out .entry)) at (positions number first (now (types .entry))) (now (out .exit)) r ⌝ }
+{
+    let mut i = 0;
+    let mut set = first;
+    let mut to = at;
+    while i < types.len() {
+        let yes = same(types[i], number);
+        to = push_if(out, to, yes, set);
+        i += 1;
+        set += 1;
+    }
+    to
+}
+
+// How many they are.
+pub fn count_of_type(types: &[u32], number: u32) -> u32
+    requires { ⌜ length (now types) ≤ 300000000 ⌝ }
+    ensures { λ r. ⌜ r ≡ length (positions number 0 (now (types .entry))) ⌝ }
+{
+    let mut i = 0;
+    let mut n: u32 = 0;
+    while i < types.len() {
+        let yes = same(types[i], number);
+        n = add_if(n, yes);
+        i += 1;
+    }
+    n
+}
+
+// ---- roles of a group
 
 // The sets of the roles in the predicate's group with this number; 0: in no group.
 pub fn push_in_group(t: &[u32], x: table::Cursor, number: u32, out: &mut [u32], at: usize) -> usize

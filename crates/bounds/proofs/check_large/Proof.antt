@@ -12,7 +12,7 @@ check-large-spec =
     (tie.spec
     (λ c κs. search needs)
     (λ c. search needs)
-    (λ c κs. search (needs, valid-walkable))
+    (λ c κs. (search (needs, valid-walkable), search needs))
     (λ c. search (needs, limits-fill))
     (λ c. search (needs, front-count, limits-fill))
     (λ c κs. search (needs, limits-whole))

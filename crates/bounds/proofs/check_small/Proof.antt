@@ -12,10 +12,10 @@ check-small-spec =
     (tie.spec
     (λ c κs. search needs)
     (λ c. search needs)
-    (λ c κs. search (needs, valid-walkable))
+    (λ c κs. (search (needs, valid-walkable), search needs))
     (λ c. search (needs, few-limits-within))
     (λ c. search (needs, front-count, few-limits-within))
-    (λ c κs. search (needs, few-limits-whole))
+    (λ c κs. (search needs, (search (needs, few-limits-whole), search needs)))
     (λ c. search needs)
     (λ c. search needs)
     (λ c κs. search needs)

@@ -12,13 +12,10 @@ use Rattle.limits.proofs.push_types.Statement.{statement}
 use Rattle.limits.proofs.push_types.Tie as tie
 
 abbrev Inv-loop : tie.InvT-loop
-Inv-loop t out₀ at left₀ q₀ a₀ to₀ out left q a to =
-    (q + 6 * left ≤ 194) × (a + left ≤ 32)
-    × Writing out₀ at (items (limitsOfType (diagramOf t)) 0 (diagramOf t .types)) out to
-    (items (limitsOfType (diagramOf t)) a (typesIn left (drop q t)))
+Inv-loop t types first out₀ at left₀ q₀ a₀ to₀ out left q a to = (q + 6 * left ≤ 194) × (a + left ≤ 32) × Writing out₀ at (items (limitsOfType (diagramOf t)) 0 (diagramOf t .types)) out to (items (limitsOfType (diagramOf t)) a (typesIn left (drop q t)))
 
 abbrev μ-loop : tie.MeasureT-loop
-μ-loop t out₀ at left₀ q₀ a₀ to₀ out left q a to = left
+μ-loop t types first out₀ at left₀ q₀ a₀ to₀ out left q a to = left
 
 pub push-types-spec : {M : Type 1} → statement M
 push-types-spec =
@@ -28,7 +25,7 @@ push-types-spec =
     μ-loop
     (λ c κs. search needs)
     (λ c. search (needs, types-start))
-    (λ c κs. search needs)
+    (λ c κs. (search needs, (search needs, search needs)))
     (λ c. search needs)
     (λ c. search needs)
     (λ c. search needs)

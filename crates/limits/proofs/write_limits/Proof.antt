@@ -1,6 +1,6 @@
--- `limits::write_limits` meets its contract. The predicates' limits, then the types'.
+-- `limits::write_limits` meets its contract. The limits of the predicates, then those of the types.
 -- Assumes nothing.
-use Rattle.limits.proofs.Walked.{limits-is}
+use Rattle.limits.proofs.Walked.{limits-is, cursor-played}
 use borrow.Author.Needs.{needs}
 use Rattle.limits.proofs.write_limits.Statement.{statement}
 use Rattle.limits.proofs.write_limits.Tie as tie
@@ -11,5 +11,6 @@ write-limits-spec =
     (tie.spec
     (λ c κs. search needs)
     (λ c κs. search needs)
+    (λ c κs. (search needs, search (needs, cursor-played)))
     (λ c. search needs)
     (λ c. search (needs, limits-is)))

@@ -6,8 +6,8 @@ use mathlib.Core.Path.{_≡_, refl, ap, _∙_}
 use mathlib.Core.Bool.{Bool, true, false}
 use mathlib.Core.List.{List, [], _∷_, _++_}
 use lib.Dec.{eqb}
-use lib.ListN.{length, getD, drop, length-append}
-use lib.Seq.{drop-drop}
+use lib.ListN.{length, getD, drop, length-append, drop-of-length-le}
+use lib.Seq.{drop-drop, drop-cons}
 use Rattle.orm.specs.Diagram.{Role}
 use Rattle.orm.specs.Form.{roleOf}
 use Rattle.counting.specs.Lists.{upFrom}
@@ -18,7 +18,7 @@ use Rattle.table.specs.Positions.{rolesIn}
 use Rattle.table.specs.Laws.Walks.{each-more, each-none}
 use Rattle.table.specs.Cursors.{placedAt}
 use Rattle.table.specs.declared.Cursor.{Cursor}
-use Rattle.selection.specs.Selected.{when, has}
+use Rattle.selection.specs.Selected.{when, has, typesOf, positions}
 
 pub when-true : {o o′ : List ℕ} {at to x : ℕ} {b : Bool} → b ≡ true → Wrote o at (x ∷ []) o′ to → Wrote o at (when b x) o′ to
 when-true e w = rw e w
@@ -119,6 +119,63 @@ module _ (t : List ℕ) (q n i number : ℕ) where
 
     pub count-all : n ≤ 0 → m ≡ total
     count-all h = let none : length (select (has i number) 0 (rolesIn n (drop q t))) ≡ 0 = ap length (select-none 0 h) in omega (arith, none, w)
+
+-- ---- the types of roles, and the roles of a type
+
+module _ (t : List ℕ) (q n : ℕ) where
+  pub types-more : {v : ℕ} → 0 < n → v ≡ getD (drop q t) 0 0
+      → Splits (typesOf (rolesIn n (drop q t))) (v ∷ []) (typesOf (rolesIn (n - 1) (drop (q + 3) t)))
+  types-more h e = record { is = ap typesOf (each-more roleOf 3 t q n h) ∙ rw e }
+
+  pub types-none : n ≤ 0 → typesOf (rolesIn n (drop q t)) ≡ []
+  types-none h = ap typesOf (each-none roleOf 3 n (drop q t) h)
+
+module _ (number : ℕ) where
+  pub positions-select : (i : ℕ) (rs : List Role) → positions number i (typesOf rs) ≡ select (λ (r : Role). eqb (r .type) number) i rs
+  unfolding positions select
+  positions-select i [] = refl
+  positions-select i (r ∷ rs) = go (eqb (r .type) number) (positions-select (suc i) rs)
+    where
+      go : (b : Bool) → positions number (suc i) (typesOf rs) ≡ select (λ (a : Role). eqb (a .type) number) (suc i) rs
+          → when b i ++ positions number (suc i) (typesOf rs)
+          ≡ elim b as (λ _. List ℕ) [
+            | true ↦ i ∷ select (λ (a : Role). eqb (a .type) number) (suc i) rs
+            | false ↦ select (λ (a : Role). eqb (a .type) number) (suc i) rs
+          ]
+      go true e = ap {B = List ℕ} (λ l. i ∷ l) e
+      go false e = e
+
+  pub positions-length : (i j : ℕ) (xs : List ℕ) → length (positions number i xs) ≡ length (positions number j xs)
+  unfolding positions
+  positions-length i j [] = refl
+  positions-length i j (x ∷ xs) = go (eqb x number) (positions-length (suc i) (suc j) xs)
+    where
+      go : (b : Bool) → length (positions number (suc i) xs) ≡ length (positions number (suc j) xs)
+          → length (when b i ++ positions number (suc i) xs) ≡ length (when b j ++ positions number (suc j) xs)
+      go true e = ap suc e
+      go false e = e
+
+  module _ (xs : List ℕ) (i : ℕ) where
+    pub positions-more : (set : ℕ) {b : Bool} → i < length xs → b ≡ eqb (getD xs i 0) number
+        → Splits (positions number set (drop i xs)) (when b set) (positions number (set + 1) (drop (i + 1) xs))
+    unfolding positions
+    positions-more set h eb = record { is = rw (eb, drop-cons xs i 0 h, add-one set, add-one i) }
+
+    pub positions-none : (set : ℕ) → length xs ≤ i → positions number set (drop i xs) ≡ []
+    unfolding positions
+    positions-none set h = rw (drop-of-length-le xs h)
+
+    module _ (m : ℕ) {total : ℕ} (w : m + length (positions number 0 (drop i xs)) ≡ total) where
+      pub counting-more : {b : Bool} {m′ : ℕ} → i < length xs → b ≡ eqb (getD xs i 0) number → m′ ≡ m + length (when b 0)
+          → m′ + length (positions number 0 (drop (i + 1) xs)) ≡ total
+      counting-more {b} {m′} h eb em =
+          let rest : List ℕ = drop (i + 1) xs in
+          let split : length (positions number 0 (drop i xs)) ≡ length (when b 0 ++ positions number (0 + 1) rest) =
+          ap length (positions-more 0 h eb .is) in
+          omega (arith, split, length-append (when b 0) (positions number (0 + 1) rest), positions-length (0 + 1) 0 rest, em, w)
+
+      pub counting-all : length xs ≤ i → m ≡ total
+      counting-all h = let none : length (positions number 0 (drop i xs)) ≡ 0 = ap length (positions-none 0 h) in omega (arith, none, w)
 
 -- ---- the roles of a group
 

@@ -1,0 +1,34 @@
+-- `selection::push_types` meets its contract. The types of the roles left come to the whole.
+-- Assumes nothing.
+use Prim.Native.Nat.{_+_, _*_, _≤_}
+use lib.ListN.{drop}
+use Rattle.table.specs.Positions.{rolesIn}
+use Rattle.buffer.specs.Written.{Writing}
+use Rattle.buffer.specs.Laws.{writing-start, writing-more, writing-all, writing-long}
+use Rattle.selection.specs.Selected.{typesOf}
+use Rattle.selection.specs.Laws.Selects.{types-more, types-none}
+use borrow.Author.Needs.{needs}
+use Rattle.selection.proofs.push_types.Statement.{statement}
+use Rattle.selection.proofs.push_types.Tie as tie
+
+abbrev Inv-loop : tie.InvT-loop
+Inv-loop t q count out₀ at left₀ p₀ to₀ out left p to = (p + 3 * left ≤ 400000000) × Writing out₀ at (typesOf (rolesIn count (drop q t))) out to (typesOf (rolesIn left (drop p t)))
+
+abbrev μ-loop : tie.MeasureT-loop
+μ-loop t q count out₀ at left₀ p₀ to₀ out left p to = left
+
+pub push-types-spec : {M : Type 1} → statement M
+push-types-spec =
+    tie.close
+    (tie.spec
+    Inv-loop
+    μ-loop
+    (λ c. search (needs, writing-start))
+    (λ c κs. search needs)
+    (λ c κs. search needs)
+    (λ c. search needs)
+    (λ c. search needs)
+    (λ c. search needs)
+    (λ c. search (needs, writing-more, types-more))
+    (λ c. search (needs, writing-long))
+    (λ c. search (needs, writing-all, types-none)))

@@ -5,7 +5,7 @@ ghost use Prim.Native.Nat.{_+_, _≤_, _<_, _/_, min};
 ghost use lib.ListN.{length, getD};
 ghost use Rattle.fixpoint.specs.Limits.{valueOf, lowered, round};
 ghost use Rattle.lowering.specs.Sizes.{productOf, sumOf, Small};
-ghost use Rattle.lowering.specs.Encoding.{exprOf, limitAt, decode};
+ghost use Rattle.lowering.specs.Encoding.{exprOf, limitAt, Single, decode};
 
 // A cast of an element; callers learn the bound too.
 pub fn index(x: u32) -> usize
@@ -30,7 +30,7 @@ fn size(sizes: &[u32], s: u32) -> u32
     if i < sizes.len() { sizes[i] } else { 0 }
 }
 
-pub fn first(operands: &[u32]) -> u32
+fn first(operands: &[u32]) -> u32
     ensures { λ r. ⌜ r ≡ getD (now (operands .entry)) 0 0 ⌝ }
 {
     if 0 < operands.len() { operands[0] } else { 0 }
@@ -100,13 +100,38 @@ pub fn end_of(limits: &[u32], at: usize) -> usize
     }
 }
 
-fn value_at(limits: &[u32], at: usize, old: &[u32]) -> u32
+fn value_of(limits: &[u32], at: usize, old: &[u32]) -> u32
     requires { ⌜ at + 4 ≤ length (now limits) ⌝ }
     ensures { λ r. ⌜ r ≡ min 4096 (valueOf (now (old .entry)) (limitAt (now (limits .entry)) at .most)) ⌝ }
 {
     let start = at + 4;
     let end = end_of(limits, at);
     value(limits[at], limits[at + 2], &limits[start..end], old)
+}
+
+// Whether the limit at `at` is the size of one set.
+fn is_single(limits: &[u32], at: usize) -> bool
+    requires { ⌜ at + 4 ≤ length (now limits) ⌝ }
+    ensures { λ r. ⌜ Single r (now (limits .entry)) at ⌝ }
+{
+    if limits[at] != 0 {
+        return false;
+    }
+    if limits[at + 3] != 1 {
+        return false;
+    }
+    at + 4 < limits.len()
+}
+
+// Most limits are the size of one set.
+fn value_at(limits: &[u32], at: usize, old: &[u32]) -> u32
+    requires { ⌜ at + 4 ≤ length (now limits) ⌝ }
+    ensures { λ r. ⌜ r ≡ min 4096 (valueOf (now (old .entry)) (limitAt (now (limits .entry)) at .most)) ⌝ }
+{
+    if is_single(limits, at) {
+        return cut(size(old, limits[at + 4]));
+    }
+    value_of(limits, at, old)
 }
 
 // Puts the limit at `at` to use.

@@ -140,13 +140,13 @@ pub fn push_of_type(types: &[u32], number: u32, first: u32, out: &mut [u32], at:
     ensures { λ r. ⌜ Wrote (now (out .entry)) at (positions number first (now (types .entry))) (now (out .exit)) r ⌝ }
 {
     let mut i = 0;
-    let mut set = first;
+    let mut role = first;
     let mut to = at;
     while i < types.len() {
         let yes = same(types[i], number);
-        to = push_if(out, to, yes, set);
+        to = push_if(out, to, yes, role);
         i += 1;
-        set += 1;
+        role += 1;
     }
     to
 }

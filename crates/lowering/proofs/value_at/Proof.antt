@@ -1,6 +1,6 @@
--- `lowering::value_at` meets its contract. The part of the limits that is handed on has the limit's operands.
+-- `lowering::value_at` meets its contract. A limit that is the size of one set, or any other.
 -- Assumes nothing.
-use Rattle.lowering.proofs.Step.{value-part}
+use Rattle.lowering.proofs.Step.{single-room, single-value}
 use borrow.Author.Needs.{needs}
 use Rattle.lowering.proofs.value_at.Statement.{statement}
 use Rattle.lowering.proofs.value_at.Tie as tie
@@ -9,16 +9,12 @@ pub value-at-spec : {M : Type 1} → statement M
 value-at-spec =
     tie.close
     (tie.spec
-    (λ c. search needs)
     (λ c κs. search needs)
     (λ c. search needs)
     (λ c. search needs)
-    (λ c. search needs)
-    (λ c. search needs)
-    (λ c. search needs)
-    (λ c. search needs)
-    (λ c. search needs)
-    (λ c. search needs)
-    (λ c. search needs)
+    (λ c. search (needs, single-room))
     (λ c κs. search needs)
-    (λ c. search (needs, value-part)))
+    (λ c κs. search needs)
+    (λ c. search (needs, single-value))
+    (λ c κs. search needs)
+    (λ c. search needs))

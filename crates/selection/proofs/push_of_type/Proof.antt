@@ -12,10 +12,10 @@ use Rattle.selection.proofs.push_of_type.Statement.{statement}
 use Rattle.selection.proofs.push_of_type.Tie as tie
 
 abbrev Inv-loop : tie.InvT-loop
-Inv-loop types number first out₀ at i₀ set₀ to₀ out i set to = (i ≤ length types) × (set ≡ first + i) × Writing out₀ at (positions number first types) out to (positions number set (drop i types))
+Inv-loop types number first out₀ at i₀ role₀ to₀ out i role to = (i ≤ length types) × (role ≡ first + i) × Writing out₀ at (positions number first types) out to (positions number role (drop i types))
 
 abbrev μ-loop : tie.MeasureT-loop
-μ-loop types number first out₀ at i₀ set₀ to₀ out i set to = length types - i
+μ-loop types number first out₀ at i₀ role₀ to₀ out i role to = length types - i
 
 pub push-of-type-spec : {M : Type 1} → statement M
 push-of-type-spec =

@@ -142,12 +142,16 @@ fn check_small(table: &[u32], types: &[u32], lower: &[u32], sizes: &mut [u32]) -
     check_large(table, types, sizes)
 }
 
-// With little room first: clearing much costs more than a small diagram's rounds.
+// With little room first: clearing much costs more than a small diagram's rounds. A long table has
+// many sets, as none takes more than 6 of its numbers.
 fn check_typed(table: &[u32], types: &[u32], sizes: &mut [u32]) -> CheckAnswer
     requires { ⌜ Valid (now table) ⌝ }
     requires { ⌜ Types (now table) (now types) ⌝ }
     ensures { λ r. ⌜ Answered (checkCall (now (table .entry)) (length (now (sizes .entry)))) r (now (sizes .entry)) (now (sizes .exit)) ⌝ }
 {
+    if 200 < table.len() {
+        return check_large(table, types, sizes);
+    }
     let mut lower = few_sets();
     let n = limits::write_lower(table, &mut lower);
     if n < 32 {

@@ -12,6 +12,9 @@ check-typed-spec =
     (tie.spec
     (λ c κs. search needs)
     (λ c. search needs)
+    (λ c. search needs)
+    (λ c κs. search needs)
+    (λ c. search needs)
     (λ c κs. search (needs, valid-walkable))
     (λ c. search (needs, few-lower-within))
     (λ c. search (needs, front-count, few-lower-within))

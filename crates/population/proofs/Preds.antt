@@ -89,6 +89,10 @@ owns-length : (c : List ℕ) (y : Placed) → length (owns c y) ≡ length (part
 unfolding owns
 owns-length c y = length-map (parts y) (λ (b : Part). size c (b .own))
 
+counts-length : (y : Placed) → length (counts y) ≡ length (parts y)
+unfolding counts
+counts-length y = length-map (parts y) (λ (b : Part). length (b .roles))
+
 pub types-few : {t types : List ℕ} → RoleTypes t types → length types ≤ 96
 types-few r = r .small-enough
 
@@ -161,10 +165,33 @@ module _ {t c : List ℕ} {x : Cursor} (ready : Ready t c x) {columns os ks is i
   unfolding placedAt
   columns-whole = p .columned .are
 
-  pub prepared-planned : Planned columns os ks is′
-  prepared-planned =
-      rw (columns-whole, outer-whole, p .ks-are, inner-whole)
+  columns-wide : 4 * getD (drop (x .at) t) 2 0 ≤ length (columnsFrom (diagramOf t) c (p .columned .types) (order px) (px .roles) (px .predicate .roles))
+  columns-wide = omega (
+    arith,
+    columns-length (diagramOf t) c (p .columned .types) (order px) (px .roles) (px .predicate .roles),
+    role-count t x,
+  )
+
+  outer-there : 3 * length (counts px) ≤ length (outer c px ++ p .stepped .rest)
+  outer-there = omega (
+    arith,
+    length-append (outer c px) (p .stepped .rest),
+    length-steps (size c (px .own)) (owns c px),
+    owns-length c px,
+    counts-length px,
+  )
+
+  inner-there : (i : ℕ) → 3 * length (tuplesIn (inner c px ++ rest′) (counts px) (tupleIn (outer c px ++ p .stepped .rest) (length (counts px)) i))
+      ≤ length (inner c px ++ rest′)
+  inner-there i = omega (arith, flat-long c px (p .stepped .rest) rest′ i, length-append (inner c px) rest′, inner-long c px)
+
+  pub prepared-planned : {m : ℕ} → m ≡ getD (drop (x .at) t) 2 0 → Planned m columns os ks is′
+  prepared-planned em =
+      rw (em, columns-whole, outer-whole, p .ks-are, inner-whole)
       (record {
+        wide = columns-wide;
+        stepped = outer-there;
+        there = inner-there;
         few = counts-few t x (ready .few);
         counted = record { at = λ k. omega (arith, counted-small t x (ready .few) .at k) };
         small = columns-small t c (p .columned .types) (order px) (ready .walk) (ready .sizes) (p .columned .typed .small-enough)
@@ -188,6 +215,9 @@ module _ {t c : List ℕ} {x : Cursor} (ready : Ready t c x) {columns os ks is i
       (ap₂ {C = List ℕ} (λ k l. k ∷ l) (own ∙ sym many)
       (flat-rows (rowBy columns count os ks is′) (row (diagramOf t) c px) (upFrom 0 (getD c (x .own) 0)) (row-made refl)
       ∙ ap (λ (k : ℕ). flatten (map (row (diagramOf t) c px) (upFrom 0 k))) own))
+
+pub planned-count : {m k : ℕ} {columns os ks is : List ℕ} → Planned k columns os ks is → m ≡ k → Planned m columns os ks is
+planned-count p e = rw e p
 
 pub planned-is : (columns os ks is : List ℕ) {n n′ m m′ to b at : ℕ} {o o₁ o₂ : List ℕ} → n ≡ n′ → m ≡ m′ → Wrote o at (n ∷ []) o₁ to
     → Wrote o₁ to (flatMap (rowBy columns m os ks is) (upFrom 0 n)) o₂ b → Wrote o at (cellsBy columns os ks is n′ m′) o₂ b

@@ -13,14 +13,17 @@ use Rattle.table.specs.Positions.{each}
 use Rattle.table.specs.Laws.Walks.{each-more, each-none}
 use Rattle.table.specs.Valid.{Under}
 use Rattle.table.specs.Laws.Valid.{under-nil, under-cons, under-append}
-use Rattle.tuples.specs.Steps.{tupleIn, indexBefore, entryAt, Small, Bounded}
+use Rattle.tuples.specs.Steps.{tupleIn, indexBefore, entryAt, Small, Spanned}
 use Rattle.tuples.specs.StepsLaws.{length-tupleIn, entry-small, index-small}
 use Rattle.tuples.specs.Stored.{Stored, stored-front, stored-long}
-use Rattle.tuples.specs.Nested.{tuplesIn, Indices}
+use Rattle.tuples.specs.Nested.{tuplesIn, Indices, Roomy}
 use Rattle.population.specs.Plan.{cellOf, rowBy, Room, Planned}
 
-pub column-small : (columns : List ℕ) (p i : ℕ) {r : ℕ} → Under 999999 columns → r ≡ getD (drop p columns) i 0 → r ≤ 999999
-column-small columns p i u e = rw (e, getD-drop p columns i 0) (u .at (p + i))
+pub column-is : (columns : List ℕ) (p i : ℕ) → getD columns (p + i) 0 ≡ getD (drop p columns) i 0
+column-is columns p i = sym (getD-drop p columns i 0)
+
+pub column-small : (columns : List ℕ) (i : ℕ) → Under 999999 columns → getD columns i 0 ≤ 999999
+column-small columns i u = u .at i
 
 pub member-is : (flat : List ℕ) (place : ℕ) {i r : ℕ} → i ≡ place → r ≡ getD (drop 0 flat) i 0 → r ≡ getD flat place 0
 member-is flat place ei er = er ∙ ap (λ (n : ℕ). getD flat n 0) ei
@@ -48,10 +51,11 @@ under-weaken h u = record { at = λ k. omega (arith, u .at k) }
 tuple-under : (s : List ℕ) (k i : ℕ) → Under (2 * i) (tupleIn s k i)
 unfolding tupleIn
 tuple-under s zero i = under-nil (2 * i)
-tuple-under s (suc k) i =
-    under-append (tupleIn s k (indexBefore s k i)) (entryAt s k i ∷ [])
-    (under-weaken (omega (arith, index-small s k i)) (tuple-under s k (indexBefore s k i)))
-    (under-cons (entry-small s k i) (under-nil (2 * i)))
+tuple-under s (suc zero) i = under-cons (omega arith) (under-nil (2 * i))
+tuple-under s (suc (suc k)) i =
+    under-append (tupleIn s (suc k) (indexBefore s (suc k) i)) (entryAt s (suc k) i ∷ [])
+    (under-weaken (omega (arith, index-small s (suc k) i)) (tuple-under s (suc k) (indexBefore s (suc k) i)))
+    (under-cons (entry-small s (suc k) i) (under-nil (2 * i)))
 
 tuples-under : (s ks is : List ℕ) → Under 1000000 is → Under 2000000 (tuplesIn s ks is)
 unfolding tuplesIn
@@ -67,11 +71,11 @@ module _ {inner ks rows : List ℕ} (r : Room inner ks rows) where
   pub room-counted : Small ks
   room-counted = r .counted
 
-  pub room-few : length rows ≤ 50
-  room-few = omega (arith, r .few)
-
   pub room-indices : Indices rows
   room-indices = record { at = λ k. omega (arith, r .indices k) }
+
+  pub room-roomy : {s : List ℕ} → length s ≡ 42 → Roomy inner ks rows s
+  room-roomy room = record { few = omega (arith, r .few); counted = r .each-counted; there = r .there; room = omega (arith, r .enough, room) }
 
   module _ {s s′ : List ℕ} {n : ℕ} (room : length s ≡ 42) (w : Stored s 0 (tuplesIn inner ks rows) s′)
       (en : n ≡ length (tuplesIn inner ks rows)) where
@@ -88,12 +92,20 @@ module _ {inner ks rows : List ℕ} (r : Room inner ks rows) where
         → Wrote o at (each (cellOf (tuplesIn inner ks rows)) 4 count columns) o′ to
     row-of columns count v = wrote-as v (ap (λ (l : List ℕ). each (cellOf l) 4 count columns) flat-front)
 
-module _ {columns outer ks inner : List ℕ} (p : Planned columns outer ks inner) where
+module _ {count : ℕ} {columns outer ks inner : List ℕ} (p : Planned count columns outer ks inner) where
   pub planned-columns : Under 999999 columns
   planned-columns = p .small
 
-  pub planned-bounded : Bounded 0 (length ks)
-  planned-bounded = record { from = omega arith; few = omega (arith, p .few) }
+  pub planned-wide : 4 * count ≤ length columns
+  planned-wide = p .wide
+
+  pub planned-spanned : {s : List ℕ} → length s ≡ 12 → Spanned outer 0 (length ks) s 0
+  planned-spanned room = record {
+    bounded = record { from = omega arith; few = omega (arith, p .few) };
+    low = omega arith;
+    there = omega (arith, p .stepped);
+    room = omega (arith, p .few, room);
+  }
 
   module _ {s s′ : List ℕ} (i : ℕ) (room : length s ≡ 12) (w : Stored s 0 (tupleIn outer (length ks) i) s′) where
     rows-front : take (length ks) s′ ≡ tupleIn outer (length ks) i
@@ -106,16 +118,18 @@ module _ {columns outer ks inner : List ℕ} (p : Planned columns outer ks inner
     pub rows-room : i ≤ 4096 → Room inner ks (take (length ks) s′)
     rows-room h = rw rows-front (record {
       few = omega (arith, p .few, length-tupleIn outer (length ks) i);
+      each-counted = omega (arith, length-tupleIn outer (length ks) i);
+      there = p .there i;
       counted = p .counted;
       indices = λ k. omega (arith, tuple-under outer (length ks) i .at k);
       enough = p .enough i;
     })
 
-    pub row-is : (count : ℕ) {o o′ : List ℕ} {at to : ℕ}
+    pub row-is : {o o′ : List ℕ} {at to : ℕ}
         → Wrote o at (each (cellOf (tuplesIn inner ks (take (length ks) s′))) 4 count columns) o′ to
         → Wrote o at (rowBy columns count outer ks inner i) o′ to
     unfolding rowBy
-    row-is count v = wrote-as v (ap (λ (l : List ℕ). each (cellOf (tuplesIn inner ks l)) 4 count columns) rows-front)
+    row-is v = wrote-as v (ap (λ (l : List ℕ). each (cellOf (tuplesIn inner ks l)) 4 count columns) rows-front)
 
 -- ---- all rows
 

@@ -1,5 +1,5 @@
 -- What is prepared for a predicate before its rows are written, and the row that it gives.
-use Prim.Native.Nat.{ℕ, suc, _+_, _%_, _≤_}
+use Prim.Native.Nat.{ℕ, suc, _+_, _*_, _%_, _≤_}
 use mathlib.Core.Path.{_≡_}
 use mathlib.Core.Bool.{Bool, true, false}
 use mathlib.Core.List.{List, [], _∷_, _++_, flatMap, flatten, map}
@@ -87,14 +87,20 @@ pub record Wants (wants ks : List ℕ) : Type 0 where
   pub wanted : Small wants
   pub counted : Small ks
 
--- Rows of parts, and room for all their indices
+-- Rows of parts, with a count and the steps of each, and room for all their indices
 pub record Room (inner ks rows : List ℕ) : Type 0 where
   pub few : length rows ≤ 12
+  pub each-counted : length rows ≤ length ks
+  pub there : 3 * length (tuplesIn inner ks rows) ≤ length inner
   pub counted : Small ks
   pub indices : (k : ℕ) → getD rows k 0 ≤ 8192
   pub enough : length (tuplesIn inner ks rows) ≤ 42
 
-pub record Planned (columns outer ks inner : List ℕ) : Type 0 where
+-- What is prepared for a predicate of `count` roles: all of it is there and small
+pub record Planned (count : ℕ) (columns outer ks inner : List ℕ) : Type 0 where
+  pub wide : 4 * count ≤ length columns
+  pub stepped : 3 * length ks ≤ length outer
+  pub there : (i : ℕ) → 3 * length (tuplesIn inner ks (tupleIn outer (length ks) i)) ≤ length inner
   pub few : length ks ≤ 12
   pub counted : Small ks
   pub small : Under 999999 columns

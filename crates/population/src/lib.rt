@@ -4,7 +4,7 @@
 ghost use mathlib.Core.Path.{_≡_};
 ghost use mathlib.Core.Bool.{_&&_};
 ghost use mathlib.Core.List.{[], _∷_, map, flatMap, flatten};
-ghost use Prim.Native.Nat.{_+_, _*_, _≤_};
+ghost use Prim.Native.Nat.{_+_, _*_, _-_, min, _≤_, _<_};
 ghost use lib.Dec.{eqb};
 ghost use lib.ListN.{length, getD, drop};
 ghost use Rattle.counting.specs.Lists.{upFrom, mapFrom};
@@ -83,6 +83,36 @@ fn first_value(t: &[u32], a: u32) -> u32
     first_at(t, root(t, a))
 }
 
+// How many of `count` numbers there is room for from `at` on.
+fn fitting(length: usize, at: usize, count: u32) -> u32
+    ensures { λ r. ⌜ r ≡ min count (length - at) ⌝ }
+{
+    if length <= at {
+        return 0;
+    }
+    if length - at < table::index(count) {
+        return (length - at) as u32;
+    }
+    count
+}
+
+// `count` consecutive numbers. That there is room is tested once for all of them.
+fn push_up(out: &mut [u32], at: usize, first: u32, count: u32) -> usize
+    requires { ⌜ first + count ≤ 300000000 ⌝ }
+    ensures { λ r. ⌜ Wrote (now (out .entry)) at (upFrom first count) (now (out .exit)) r ⌝ }
+{
+    let mut left = fitting(out.len(), at, count);
+    let mut x = first;
+    let mut to = at;
+    while 0 < left {
+        out[to] = x;
+        x += 1;
+        to += 1;
+        left -= 1;
+    }
+    to
+}
+
 // The cells of the type at an index.
 fn push_type(t: &[u32], c: &[u32], a: u32, out: &mut [u32], at: usize) -> usize
     requires { ⌜ Walkable (now t) ⌝ }
@@ -91,7 +121,7 @@ fn push_type(t: &[u32], c: &[u32], a: u32, out: &mut [u32], at: usize) -> usize
 {
     let count = size(c, a);
     let b = buffer::push(out, at, count);
-    selection::push_up(out, b, first_value(t, a), count)
+    push_up(out, b, first_value(t, a), count)
 }
 
 fn push_types(t: &[u32], c: &[u32], out: &mut [u32], at: usize) -> usize
@@ -472,10 +502,11 @@ fn plan_columns(t: &[u32], c: &[u32], types: &[u32], x: table::Cursor, out: &mut
 
 fn column_item(columns: &[u32], p: usize, i: usize) -> u32
     requires { ⌜ Under 999999 (now columns) ⌝ }
+    requires { ⌜ p + i < length (now columns) ⌝ }
     ensures { λ r. ⌜ r ≡ getD (drop p (now (columns .entry))) i 0 ⌝ }
     ensures { λ r. ⌜ r ≤ 999999 ⌝ }
 {
-    tuples::item(columns, p, i)
+    columns[p + i]
 }
 
 fn member(flat: &[u32], place: u32) -> u32
@@ -489,6 +520,7 @@ fn member(flat: &[u32], place: u32) -> u32
 // The cell of the column at p in a row given by parts.
 fn cell(columns: &[u32], p: usize, flat: &[u32]) -> u32
     requires { ⌜ Under 999999 (now columns) ⌝ }
+    requires { ⌜ p + 4 ≤ length (now columns) ⌝ }
     requires { ⌜ Under 2000000 (now flat) ⌝ }
     ensures { λ r. ⌜ r ≡ cellOf (now (flat .entry)) (drop p (now (columns .entry))) ⌝ }
 {
@@ -502,6 +534,7 @@ fn cell(columns: &[u32], p: usize, flat: &[u32]) -> u32
 // A row of `count` columns, given by parts.
 fn push_row(columns: &[u32], count: u32, flat: &[u32], out: &mut [u32], at: usize) -> usize
     requires { ⌜ Under 999999 (now columns) ⌝ }
+    requires { ⌜ 4 * count ≤ length (now columns) ⌝ }
     requires { ⌜ Under 2000000 (now flat) ⌝ }
     ensures { λ r. ⌜ Wrote (now (out .entry)) at (each (cellOf (now (flat .entry))) 4 count (now (columns .entry))) (now (out .exit)) r ⌝ }
 {
@@ -516,26 +549,28 @@ fn push_row(columns: &[u32], count: u32, flat: &[u32], out: &mut [u32], at: usiz
     to
 }
 
-// The row whose parts have the tuples `rows`.
+// The row whose parts have the tuples `rows`; `flat` is scratch.
 fn row_of(
     columns: &[u32],
     count: u32,
     ks: &[u32],
     inner: &[u32],
     rows: &[u32],
+    flat: &mut [u32],
     out: &mut [u32],
     at: usize,
 ) -> usize
     requires { ⌜ Under 999999 (now columns) ⌝ }
+    requires { ⌜ 4 * count ≤ length (now columns) ⌝ }
     requires { ⌜ Room (now inner) (now ks) (now rows) ⌝ }
+    requires { ⌜ length (now flat) ≡ 42 ⌝ }
     ensures { λ r. ⌜ Wrote (now (out .entry)) at (each (cellOf (tuplesIn (now (inner .entry)) (now (ks .entry)) (now (rows .entry)))) 4 count (now (columns .entry))) (now (out .exit)) r ⌝ }
 {
-    let mut flat = role_space();
-    let n = tuples::tuple_each(inner, ks, rows, &mut flat);
+    let n = tuples::tuple_each(inner, ks, rows, flat);
     push_row(columns, count, &flat[..n], out, at)
 }
 
-// Row i.
+// Row i; `rows` and `flat` are scratch.
 fn row(
     columns: &[u32],
     count: u32,
@@ -543,17 +578,20 @@ fn row(
     ks: &[u32],
     inner: &[u32],
     i: u32,
+    rows: &mut [u32],
+    flat: &mut [u32],
     out: &mut [u32],
     at: usize,
 ) -> usize
-    requires { ⌜ Planned (now columns) (now outer) (now ks) (now inner) ⌝ }
+    requires { ⌜ Planned count (now columns) (now outer) (now ks) (now inner) ⌝ }
     requires { ⌜ i ≤ 4096 ⌝ }
+    requires { ⌜ length (now rows) ≡ 12 ⌝ }
+    requires { ⌜ length (now flat) ≡ 42 ⌝ }
     ensures { λ r. ⌜ Wrote (now (out .entry)) at (rowBy (now (columns .entry)) count (now (outer .entry)) (now (ks .entry)) (now (inner .entry)) i) (now (out .exit)) r ⌝ }
 {
-    let mut rows = part_space();
     let n = ks.len();
-    tuples::tuple(outer, 0, n, i, &mut rows, 0);
-    row_of(columns, count, ks, inner, &rows[..n], out, at)
+    tuples::tuple(outer, 0, n, i, rows, 0);
+    row_of(columns, count, ks, inner, &rows[..n], flat, out, at)
 }
 
 fn push_rows(
@@ -563,18 +601,22 @@ fn push_rows(
     ks: &[u32],
     inner: &[u32],
     size: u32,
+    rows: &mut [u32],
+    flat: &mut [u32],
     out: &mut [u32],
     at: usize,
 ) -> usize
-    requires { ⌜ Planned (now columns) (now outer) (now ks) (now inner) ⌝ }
+    requires { ⌜ Planned count (now columns) (now outer) (now ks) (now inner) ⌝ }
     requires { ⌜ size ≤ 4096 ⌝ }
+    requires { ⌜ length (now rows) ≡ 12 ⌝ }
+    requires { ⌜ length (now flat) ≡ 42 ⌝ }
     ensures { λ r. ⌜ Wrote (now (out .entry)) at (flatMap (rowBy (now (columns .entry)) count (now (outer .entry)) (now (ks .entry)) (now (inner .entry))) (upFrom 0 size)) (now (out .exit)) r ⌝ }
 {
     let mut left = size;
     let mut i: u32 = 0;
     let mut to = at;
     while 0 < left {
-        to = row(columns, count, outer, ks, inner, i, out, to);
+        to = row(columns, count, outer, ks, inner, i, rows, flat, out, to);
         i += 1;
         left -= 1;
     }
@@ -612,13 +654,26 @@ fn push_planned(
     at: usize,
 ) -> usize
     requires { ⌜ Ready (now t) (now c) x ⌝ }
-    requires { ⌜ Planned (now columns) (now outer) (now ks) (now inner) ⌝ }
+    requires { ⌜ Planned (getD (drop (x .at) (now t)) 2 0) (now columns) (now outer) (now ks) (now inner) ⌝ }
     ensures { λ r. ⌜ Wrote (now (out .entry)) at (cellsBy (now (columns .entry)) (now (outer .entry)) (now (ks .entry)) (now (inner .entry)) (getD (now (c .entry)) (x .own) 0) (getD (drop (x .at) (now (t .entry))) 2 0)) (now (out .exit)) r ⌝ }
 {
     let size = size(c, x.own);
     let count = table::field(t, x.at, 2);
     let to = buffer::push(out, at, size);
-    push_rows(columns, count, outer, ks, inner, size, out, to)
+    let mut rows = part_space();
+    let mut flat = role_space();
+    push_rows(
+        columns,
+        count,
+        outer,
+        ks,
+        inner,
+        size,
+        &mut rows,
+        &mut flat,
+        out,
+        to,
+    )
 }
 
 // The same, with the steps of the parts' roles prepared here.

@@ -1,16 +1,17 @@
 -- Single numbers: remainders and quotients, also by 0, the greatest common divisor, products that fit, and reading past the end.
 use Prim.Native.Nat.{ℕ, zero, suc, _+_, _*_, _/_, _%_, _-_, min, _≤_, _<_}
-use native.Mathlib.Nat.{mod-zero, div-zero, mod-eq-of-lt, div-eq-of-lt, mod-le, mod-lt, div-le-self, mul-le-mul, zero-lt-suc, lt-suc-self}
+use native.Mathlib.Nat.{mod-zero, div-zero, mod-eq-of-lt, div-eq-of-lt, mod-le, mod-lt, div-le-self, mul-le-mul, zero-lt-suc, lt-suc-self, add-zero}
 use native.Mathlib.Omega.{arith}
 use mathlib.Core.Path.{_≡_, refl, sym, ap, ap₂, _∙_}
+use mathlib.Core.Bool.{Bool, true, false}
 use mathlib.Core.List.{List, [], _∷_}
-use lib.ListN.{length, getD, drop, length-drop, List·getD-eq-default}
+use lib.ListN.{length, getD, drop, set, length-drop, List·getD-eq-default}
 use lib.Seq.{getD-drop}
 use mir.Syntax.{w32}
 use mir.Val.{Fits}
 use Rattle.pairing.specs.Pairing.{gcdWithin, gcd, lcm}
 use Rattle.pairing.specs.Laws.{gcdWithin-enough}
-use Rattle.tuples.specs.Steps.{entryAt, indexBefore}
+use Rattle.tuples.specs.Steps.{entryAt, indexBefore, Below}
 
 pub quotient-zero : (x : ℕ) {k : ℕ} → k ≡ 0 → 0 ≡ x / k
 quotient-zero x e = rw e (sym (div-zero x))
@@ -68,11 +69,31 @@ module _ (t : List ℕ) (at i : ℕ) where
 
 -- ---- one step of a pairing
 
-pub entry-is : (s : List ℕ) (j i : ℕ) {c t q r : ℕ} → c ≡ getD s (3 * j + 1) 0 → t ≡ getD s (3 * j + 2) 0 → q ≡ i / c → r ≡ (i + q) % t
-    → r ≡ entryAt s j i
-unfolding entryAt
-entry-is s j i ec et eq er = rw (er, eq, ec, et)
+pub below-not : (x n common size : ℕ) → Below x n common size false
+below-not x n common size = record { is = λ e. let z : _≡_ {A = ℕ} 0 1 = cc in absurd (omega arith) }
 
-pub before-is : (s : List ℕ) (j i : ℕ) {n r : ℕ} → n ≡ getD s (3 * j) 0 → r ≡ i % n → r ≡ indexBefore s j i
-unfolding indexBefore
-before-is s j i en er = rw (er, en)
+-- a number below all three stays as it is
+module _ (x n common size : ℕ) {b : Bool} (w : Below x n common size b) (e : b ≡ true) where
+  pub plain-entry : (o : List ℕ) (q : ℕ) → set o q x ≡ set o q ((x + x / common) % size)
+  plain-entry o q =
+      let none : x / common ≡ 0 = div-eq-of-lt (w .is e .1) in
+      let same : (x + 0) % size ≡ x = ap (λ (a : ℕ). a % size) (add-zero x) ∙ mod-eq-of-lt (w .is e .2) in
+      ap (set o q) (sym (ap (λ (a : ℕ). (x + a) % size) none ∙ same))
+
+  pub plain-before : x ≡ x % n
+  plain-before = sym (mod-eq-of-lt (w .is e .0))
+
+pub entry-stored : (o : List ℕ) (q x common size : ℕ) {k r : ℕ} → k ≡ x / common → r ≡ (x + k) % size → set o q r ≡ set o q ((x + x / common) % size)
+entry-stored o q x common size ek er = ap (set o q) (rw (er, ek))
+
+module _ (s : List ℕ) (p x : ℕ) where
+  pub entry-is : (o : List ℕ) (q : ℕ) {o′ : List ℕ} → o′ ≡ set o q ((x + x / getD s (p + 1) 0) % getD s (p + 2) 0)
+      → o′ ≡ set o q (entryAt (drop p s) 0 x)
+  unfolding entryAt
+  entry-is o q e = e ∙ ap (set o q) (sym (ap₂ (λ (a b : ℕ). (x + x / a) % b) (getD-drop p s 1 0) (getD-drop p s 2 0)))
+
+  pub before-is : {r : ℕ} → r ≡ x % getD s p 0 → r ≡ indexBefore (drop p s) 0 x
+  unfolding indexBefore
+  before-is er =
+      let e : p + 0 ≡ p = omega arith in
+      er ∙ sym (ap (λ (a : ℕ). x % a) (getD-drop p s 0 0 ∙ ap (λ (n : ℕ). getD s n 0) e))

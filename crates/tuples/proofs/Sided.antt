@@ -5,10 +5,10 @@ use mathlib.Core.Path.{_≡_, refl, sym, ap, _∙_}
 use mathlib.Core.List.{List, [], _∷_, _++_}
 use lib.ListN.{length, getD, drop, length-append}
 use lib.Seq.{getD-drop}
-use Rattle.tuples.specs.Steps.{tupleIn, Small, Bounded}
+use Rattle.tuples.specs.Steps.{tupleIn, Small, Bounded, Spanned}
 use Rattle.tuples.specs.StepsLaws.{length-tupleIn}
-use Rattle.tuples.specs.Stored.{Stored, Storing, storing-more, storing-all}
-use Rattle.tuples.specs.Nested.{tuplesIn, Indices, tuples-more, tuples-none}
+use Rattle.tuples.specs.Stored.{Stored, Storing, storing-more, storing-all, storing-long}
+use Rattle.tuples.specs.Nested.{tuplesIn, Indices, Roomy, tuples-more, tuples-none}
 
 -- a count is small
 pub count-small : (ks : List ℕ) (i : ℕ) {k : ℕ} → Small ks → k ≡ getD (drop i ks) 0 0 → k ≤ 4096
@@ -17,29 +17,49 @@ count-small ks i h ek = rw (ek, getD-drop i ks 0 0) (h .at (i + 0))
 pub want-small : (ws : List ℕ) (i : ℕ) → Small ws → getD ws i 0 ≤ 4096
 want-small ws i h = h .at i
 
+pub count-fits : (ks : List ℕ) (i : ℕ) {k : ℕ} → Small ks → k ≡ getD ks i 0 → k ≤ 4096
+count-fits ks i h e = rw e (h .at i)
+
 pub index-fits : (is : List ℕ) (n : ℕ) → Indices is → getD is n 0 ≤ 1000000
 index-fits is n h = h .at n
 
-module _ (s ks is : List ℕ) (n p : ℕ) {m : ℕ} (h : n < length is) (em : m ≡ getD (drop n ks) 0 0) where
+-- the steps stand at three times the index at which the row goes
+module _ (s ks is : List ℕ) (n to : ℕ) {m : ℕ} (h : n < length is) (em : m ≡ getD ks n 0) where
   abbrev here : List ℕ
-  here = tupleIn (drop p s) m (getD is n 0)
+  here = tupleIn (drop (3 * to) s) m (getD is n 0)
+
+  abbrev rest : List ℕ
+  rest = tuplesIn (drop (3 * to) s) (drop n ks) (drop n is)
 
   abbrev left : List ℕ
-  left = tuplesIn (drop (p + 3 * m) s) (drop (n + 1) ks) (drop (n + 1) is)
+  left = tuplesIn (drop (3 * (to + m)) s) (drop (n + 1) ks) (drop (n + 1) is)
 
-  split : tuplesIn (drop p s) (drop n ks) (drop n is) ≡ here ++ left
-  split = tuples-more s ks is n p h em refl refl
+  split : rest ≡ here ++ left
+  split =
+      let e : n + 0 ≡ n = omega arith in
+      let q : 3 * (to + m) ≡ 3 * to + 3 * m = omega arith in
+      tuples-more s ks is n (3 * to) h (em ∙ sym (getD-drop n ks 0 0 ∙ ap (λ (k : ℕ). getD ks k 0) e)) refl q
 
   long : length here ≡ m
-  long = length-tupleIn (drop p s) m (getD is n 0)
+  long = length-tupleIn (drop (3 * to) s) m (getD is n 0)
 
-  pub sided-more : {o whole o′ o″ : List ℕ} {at to : ℕ} → Storing o at whole o′ to (tuplesIn (drop p s) (drop n ks) (drop n is))
-      → Stored o′ to here o″
-      → Storing o at whole o″ (to + m) left
-  sided-more {to = to} w v = storing-more w v split (ap (λ (x : ℕ). to + x) (sym long))
+  parts : length rest ≡ m + length left
+  parts = omega (arith, ap length split, length-append here left, long)
 
-  pub sided-count : (to : ℕ) {total : ℕ} → to + length (tuplesIn (drop p s) (drop n ks) (drop n is)) ≡ total → (to + m) + length left ≡ total
-  sided-count to e = omega (arith, e, ap length split, length-append here left, long)
+  pub sided-more : {o whole o′ o″ : List ℕ} {at : ℕ} → Storing o at whole o′ to rest → Stored o′ to here o″ → Storing o at whole o″ (to + m) left
+  sided-more w v = storing-more w v split (ap (λ (x : ℕ). to + x) (sym long))
+
+  pub sided-count : {total : ℕ} → to + length rest ≡ total → (to + m) + length left ≡ total
+  sided-count e = omega (arith, e, parts)
+
+  pub sided-spanned : {o whole o′ : List ℕ} {at : ℕ} → Roomy s ks is o → m ≤ 4096 → to ≤ 4096 * n → to + length rest ≡ length (tuplesIn s ks is)
+      → Storing o at whole o′ to rest → Spanned s (3 * to) m o′ to
+  sided-spanned r k l e w = record {
+    bounded = record { from = omega (arith, r .few); few = omega arith };
+    low = omega (arith, r .few);
+    there = omega (arith, r .there, e, parts);
+    room = omega (arith, r .room, e, parts, storing-long w);
+  }
 
 module _ (s ks is : List ℕ) (n p : ℕ) (h : length is ≤ n) where
   pub sided-all : {o whole o′ : List ℕ} {at to : ℕ} → Storing o at whole o′ to (tuplesIn (drop p s) (drop n ks) (drop n is)) → Stored o at whole o′

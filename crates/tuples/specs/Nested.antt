@@ -25,6 +25,13 @@ tuplesIn s ks (i ∷ is) = tupleIn s (getD ks 0 0) i ++ tuplesIn (drop (3 * getD
 pub record Indices (is : List ℕ) : Type 0 where
   pub at : (k : ℕ) → getD is k 0 ≤ 1000000
 
+-- A count for each row, the steps of all pairings, and room for a row of each
+pub record Roomy (s ks is out : List ℕ) : Type 0 where
+  pub few : length is ≤ 50
+  pub counted : length is ≤ length ks
+  pub there : 3 * length (tuplesIn s ks is) ≤ length s
+  pub room : length (tuplesIn s ks is) ≤ length out
+
 -- ---- what a turn of a loop over the pairings leaves
 
 module _ (ws ks s : List ℕ) (i p : ℕ) where

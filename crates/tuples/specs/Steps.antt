@@ -1,7 +1,9 @@
 -- A pairing prepared for its rows: three numbers for each set, and the row that they give.
-use Prim.Native.Nat.{ℕ, zero, suc, _+_, _*_, _/_, _%_, min, _≤_}
+use Prim.Native.Nat.{ℕ, zero, suc, _+_, _*_, _/_, _%_, min, _≤_, _<_}
+use mathlib.Core.Path.{_≡_}
+use mathlib.Core.Bool.{Bool, true}
 use mathlib.Core.List.{List, [], _∷_, _++_}
-use lib.ListN.{getD, drop}
+use lib.ListN.{length, getD, drop}
 use Rattle.pairing.specs.Pairing.{lcm}
 
 -- The first `k` numbers of a list, 0 for each that is not there
@@ -14,7 +16,7 @@ unfoldable pub stepsFrom : ℕ → ℕ → List ℕ → List ℕ
 stepsFrom want n [] = []
 stepsFrom want n (t ∷ ts) = n ∷ lcm n t ∷ t ∷ stepsFrom want (min want (n * t)) ts
 
--- The first set 'is taken as it is': three zeros, since a remainder by 0 is the number itself
+-- The first set 'is taken as it is': nothing is read of its step
 unfoldable pub steps : ℕ → List ℕ → List ℕ
 steps want [] = []
 steps want (s ∷ ss) = 0 ∷ 0 ∷ 0 ∷ stepsFrom want s ss
@@ -29,7 +31,12 @@ indexBefore s j i = i % getD s (3 * j) 0
 -- Row `i` of the first `k` steps
 unfoldable pub tupleIn : List ℕ → ℕ → ℕ → List ℕ
 tupleIn s zero i = []
-tupleIn s (suc j) i = tupleIn s j (indexBefore s j i) ++ (entryAt s j i ∷ [])
+tupleIn s (suc zero) i = i ∷ []
+tupleIn s (suc (suc j)) i = tupleIn s (suc j) (indexBefore s (suc j) i) ++ (entryAt s (suc j) i ∷ [])
+
+-- What a test says that holds only of a number below all three of a step
+pub record Below (x n common size : ℕ) (b : Bool) : Type 0 where
+  pub is : b ≡ true → (x < n) × (x < common) × (x < size)
 
 -- No number is above 4096
 pub record Small (xs : List ℕ) : Type 0 where
@@ -39,3 +46,10 @@ pub record Small (xs : List ℕ) : Type 0 where
 pub record Bounded (at count : ℕ) : Type 0 where
   pub from : at ≤ 1000000
   pub few : count ≤ 1000000
+
+-- The steps of `count` sets stand from `at` on, and there is room for a row of them from `to` on
+pub record Spanned (steps : List ℕ) (at count : ℕ) (out : List ℕ) (to : ℕ) : Type 0 where
+  pub bounded : Bounded at count
+  pub low : to ≤ 1000000
+  pub there : at + 3 * count ≤ length steps
+  pub room : to + count ≤ length out

@@ -1,7 +1,7 @@
 -- The row of a prepared pairing is the row of the pairing.
 use Prim.Native.Nat.{ℕ, zero, suc, _+_, _*_, _/_, _%_, _-_, min, _≤_, _<_}
 use native.Mathlib.Omega.{arith}
-use native.Mathlib.Nat.{mod-le, div-le-self, mod-zero, div-zero, add-zero}
+use native.Mathlib.Nat.{mod-le, div-le-self, add-zero}
 use mathlib.Core.Path.{_≡_, refl, sym, ap, ap₂, _∙_}
 use mathlib.Core.List.{List, [], _∷_, _++_, append-assoc, append-nil}
 use lib.ListN.{length, getD, drop, length-append}
@@ -12,13 +12,14 @@ use Rattle.tuples.specs.Steps.{padded, stepsFrom, steps, entryAt, indexB
 pub length-tupleIn : (s : List ℕ) (k i : ℕ) → length (tupleIn s k i) ≡ k
 unfolding tupleIn
 length-tupleIn s zero i = refl
-length-tupleIn s (suc k) i = length-append (tupleIn s k (indexBefore s k i)) (entryAt s k i ∷ []) ∙ omega
-    (arith, length-tupleIn s k (indexBefore s k i))
+length-tupleIn s (suc zero) i = refl
+length-tupleIn s (suc (suc k)) i = length-append (tupleIn s (suc k) (indexBefore s (suc k) i)) (entryAt s (suc k) i ∷ []) ∙ omega
+    (arith, length-tupleIn s (suc k) (indexBefore s (suc k) i))
 
--- The first `m` steps, whatever follows them, give the rows of `r`
+-- The first step and `m` further ones, whatever follows them, give the rows of `r`
 record Gives (pre : List ℕ) (m : ℕ) (r : Tuples) : Type 0 where
-  long : length pre ≡ 3 * m
-  rows : (rest : List ℕ) (i : ℕ) → tupleIn (pre ++ rest) m i ≡ r .row i
+  long : length pre ≡ 3 * suc m
+  rows : (rest : List ℕ) (i : ℕ) → tupleIn (pre ++ rest) (suc m) i ≡ r .row i
 
 module _ (pre : List ℕ) (m : ℕ) (long : length pre ≡ 3 * m) (a b t : ℕ) (rest : List ℕ) where
   abbrev here : List ℕ
@@ -44,13 +45,13 @@ module _ (want : ℕ) where
       step : List ℕ
       step = r .count ∷ lcm (r .count) t ∷ t ∷ []
 
-      rows : (rest : List ℕ) (i : ℕ) → tupleIn (pre ++ step ++ rest) (suc m) i ≡ pairedWith want r t .row i
+      rows : (rest : List ℕ) (i : ℕ) → tupleIn (pre ++ step ++ rest) (suc (suc m)) i ≡ pairedWith want r t .row i
       rows rest i =
           rw (append-assoc pre step rest)
           (ap₂ {C = List ℕ} (λ l x. l ++ (x ∷ []))
-          (g .rows (step ++ rest) (indexBefore (pre ++ (step ++ rest)) m i) ∙ ap (r .row)
-          (index-here pre m (g .long) (r .count) (lcm (r .count) t) t rest i))
-          (entry-here pre m (g .long) (r .count) (lcm (r .count) t) t rest i))
+          (g .rows (step ++ rest) (indexBefore (pre ++ (step ++ rest)) (suc m) i) ∙ ap (r .row)
+          (index-here pre (suc m) (g .long) (r .count) (lcm (r .count) t) t rest i))
+          (entry-here pre (suc m) (g .long) (r .count) (lcm (r .count) t) t rest i))
 
   gives-all : (pre : List ℕ) (m : ℕ) (r : Tuples) (ts : List ℕ) → Gives pre m r
       → Gives (pre ++ stepsFrom want (r .count) ts) (m + length ts) (pairedWithAll want r ts)
@@ -63,21 +64,17 @@ module _ (want : ℕ) where
       let e : m + suc (length ts) ≡ suc m + length ts = omega arith in
       rw (e, ← append-assoc pre step (stepsFrom want (min want (r .count * t)) ts), ← count) more
 
-  first-gives : (s : ℕ) → Gives (0 ∷ 0 ∷ 0 ∷ []) 1 (single s)
-  unfolding tupleIn single entryAt
-  first-gives s = record {
-    long = refl;
-    rows = λ rest i. ap {B = List ℕ} (λ x. x ∷ [])
-        (mod-zero (i + i / 0) ∙ ap (λ (q : ℕ). i + q) (div-zero i) ∙ add-zero i);
-  }
+  first-gives : (s : ℕ) → Gives (0 ∷ 0 ∷ 0 ∷ []) 0 (single s)
+  unfolding tupleIn single
+  first-gives s = record { long = refl; rows = λ rest i. refl }
 
 -- The row of a prepared pairing, whatever stands behind its steps, is the row of the pairing
 pub steps-row : (want : ℕ) (sizes rest : List ℕ) (i : ℕ) → tupleIn (steps want sizes ++ rest) (length sizes) i ≡ tuples want sizes .row i
 unfolding steps tuples single
 steps-row want [] rest i = unfold tupleIn in refl
 steps-row want (s ∷ ss) rest i =
-    let e : suc (length ss) ≡ 1 + length ss = omega arith in
-    rw e (gives-all want (0 ∷ 0 ∷ 0 ∷ []) 1 (single s) ss (first-gives want s) .rows rest i)
+    let e : length ss ≡ 0 + length ss = omega arith in
+    rw e (gives-all want (0 ∷ 0 ∷ 0 ∷ []) 0 (single s) ss (first-gives want s) .rows rest i)
 
 -- ---- what a turn of a loop over the sizes, or over the steps, leaves
 
@@ -99,12 +96,19 @@ unfolding padded
 padded-front [] ys = refl
 padded-front (x ∷ xs) ys = ap {B = List ℕ} (λ l. x ∷ l) (padded-front xs ys)
 
-pub tuple-more : (s : List ℕ) (j i : ℕ) → 0 < j → tupleIn s j i ≡ tupleIn s (j - 1) (indexBefore s (j - 1) i) ++ (entryAt s (j - 1) i ∷ [])
+pub tuple-more : (s : List ℕ) (j i : ℕ) → 1 < j → tupleIn s j i ≡ tupleIn s (j - 1) (indexBefore s (j - 1) i) ++ (entryAt s (j - 1) i ∷ [])
 unfolding tupleIn
 tuple-more s zero i h = absurd (omega arith)
-tuple-more s (suc j) i h = let e : suc j - 1 ≡ j = omega arith in rw e
+tuple-more s (suc zero) i h = absurd (omega arith)
+tuple-more s (suc (suc j)) i h = let e : suc (suc j) - 1 ≡ suc j = omega arith in rw e
 
-pub tuple-none : (s : List ℕ) (j i : ℕ) → j ≤ 0 → tupleIn s j i ≡ []
+pub tuple-first : (s : List ℕ) (j i : ℕ) → 1 ≤ j → j ≤ 1 → tupleIn s j i ≡ i ∷ []
+unfolding tupleIn
+tuple-first s zero i h k = absurd (omega arith)
+tuple-first s (suc zero) i h k = refl
+tuple-first s (suc (suc j)) i h k = absurd (omega arith)
+
+pub tuple-none : (s : List ℕ) (j i : ℕ) → j ≡ 0 → tupleIn s j i ≡ []
 unfolding tupleIn
 tuple-none s zero i h = refl
 tuple-none s (suc j) i h = absurd (omega arith)

@@ -1,13 +1,13 @@
 -- Numbers stored into a buffer from an index on, in any order; those that would go past its end are not stored.
-use Prim.Native.Nat.{ℕ, zero, suc, _+_, _-_, _≤_, _<_}
+use Prim.Native.Nat.{ℕ, zero, suc, _+_, _*_, _/_, _%_, _-_, _≤_, _<_}
 use native.Mathlib.Omega.{arith}
 use native.Mathlib.Nat.{add-zero}
 use mathlib.Core.Path.{_≡_, refl, sym, ap, ap₂, _∙_}
 use mathlib.Core.List.{List, [], _∷_, _++_}
-use lib.ListN.{length, set, take, drop}
-use lib.Seq.{sets, set-comm, set-out, sets-eq, length-sets, take-append-seam}
+use lib.ListN.{length, getD, set, take, drop}
+use lib.Seq.{getD-drop, sets, set-comm, sets-eq, length-sets, take-append-seam}
 use Rattle.tuples.specs.Steps.{entryAt, indexBefore, tupleIn}
-use Rattle.tuples.specs.StepsLaws.{tuple-more, tuple-none, length-tupleIn}
+use Rattle.tuples.specs.StepsLaws.{tuple-more, tuple-first, tuple-none, length-tupleIn}
 
 -- The buffer `o` with `xs` stored from the index `at` on is `o′`
 pub record Stored (o : List ℕ) (at : ℕ) (xs o′ : List ℕ) : Type 0 where
@@ -52,25 +52,47 @@ stored-front {o} {o′} {xs} w h = ap (take (length xs)) (w .is ∙ sets-eq xs o
 
 -- ---- a tuple, from its last index to its first
 
-module _ (s : List ℕ) (j i at : ℕ) {o whole o′ : List ℕ} (w : Storing o at whole o′ at (tupleIn s j i)) where
-  pub tuple-next : {v i′ : ℕ} {o″ : List ℕ} → 0 < j → v ≡ entryAt s (j - 1) i → i′ ≡ indexBefore s (j - 1) i → o″ ≡ set o′ (at + (j - 1)) v
-      → Storing o at whole o″ at (tupleIn s (j - 1) i′)
-  tuple-next h ev ei eo =
-      let before : List ℕ = tupleIn s (j - 1) (indexBefore s (j - 1) i) in
-      let long : length before ≡ j - 1 = length-tupleIn s (j - 1) (indexBefore s (j - 1) i) in
+pub no-tuple : (o s : List ℕ) (at i : ℕ) {j : ℕ} → j ≡ 0 → Stored o at (tupleIn s j i) o
+no-tuple o s at i {j} e = record { is = sym (ap (sets o at) (tuple-none s j i e)) }
+
+-- a step's numbers, counted from the first step's
+step-entry : (s : List ℕ) (b j i : ℕ) → entryAt (drop (b + 3 * j) s) 0 i ≡ entryAt (drop b s) j i
+unfolding entryAt
+step-entry s b j i = ap₂ (λ (x y : ℕ). (i + i / x) % y) (number 1) (number 2)
+  where
+    number : (k : ℕ) → getD (drop (b + 3 * j) s) k 0 ≡ getD (drop b s) (3 * j + k) 0
+    number k =
+        let e : b + 3 * j + k ≡ b + (3 * j + k) = omega arith in
+        getD-drop (b + 3 * j) s k 0 ∙ ap (λ (n : ℕ). getD s n 0) e ∙ sym (getD-drop b s (3 * j + k) 0)
+
+step-before : (s : List ℕ) (b j i : ℕ) → indexBefore (drop (b + 3 * j) s) 0 i ≡ indexBefore (drop b s) j i
+unfolding indexBefore
+step-before s b j i =
+    let e : b + 3 * j + 0 ≡ b + (3 * j) = omega arith in
+    ap (λ (x : ℕ). i % x) (getD-drop (b + 3 * j) s 0 0 ∙ ap (λ (n : ℕ). getD s n 0) e ∙ sym (getD-drop b s (3 * j) 0))
+
+module _ (s : List ℕ) (b j i at : ℕ) {o whole o′ : List ℕ} (w : Storing o at whole o′ at (tupleIn (drop b s) j i)) where
+  pub tuple-next : {i′ : ℕ} {o″ : List ℕ} → 1 < j → o″ ≡ set o′ (at + (j - 1)) (entryAt (drop (b + 3 * (j - 1)) s) 0 i)
+      → i′ ≡ indexBefore (drop (b + 3 * (j - 1)) s) 0 i
+      → Storing o at whole o″ at (tupleIn (drop b s) (j - 1) i′)
+  tuple-next h eo ei =
+      let before : List ℕ = tupleIn (drop b s) (j - 1) (indexBefore (drop b s) (j - 1) i) in
+      let long : length before ≡ j - 1 = length-tupleIn (drop b s) (j - 1) (indexBefore (drop b s) (j - 1) i) in
       record {
         is =
-            rw (eo, ei, ev)
-            (sets-set o′ at before (at + (j - 1)) (entryAt s (j - 1) i) (omega (arith, long))
-            ∙ ap (λ (n : ℕ). set (sets o′ at before) (at + n) (entryAt s (j - 1) i)) (sym long)
-            ∙ sym (sets-append o′ at before (entryAt s (j - 1) i ∷ []))
-            ∙ ap (sets o′ at) (sym (tuple-more s j i h))
+            rw (eo, ei, step-entry s b (j - 1) i, step-before s b (j - 1) i)
+            (sets-set o′ at before (at + (j - 1)) (entryAt (drop b s) (j - 1) i) (omega (arith, long))
+            ∙ ap (λ (n : ℕ). set (sets o′ at before) (at + n) (entryAt (drop b s) (j - 1) i)) (sym long)
+            ∙ sym (sets-append o′ at before (entryAt (drop b s) (j - 1) i ∷ []))
+            ∙ ap (sets o′ at) (sym (tuple-more (drop b s) j i h))
             ∙ w .is);
       }
 
-  pub tuple-end : j ≤ 0 → Stored o at whole o′
-  tuple-end h = storing-all w (tuple-none s j i h)
+  pub tuple-end : 1 ≤ j → j ≤ 1 → Stored o at whole (set o′ at i)
+  tuple-end h k = record { is = sym (ap (sets o′ at) (tuple-first (drop b s) j i h k)) ∙ w .is }
 
--- one number
-pub store-past : (o : List ℕ) (at x : ℕ) → length o ≤ at → o ≡ set o at x
-store-past o at x h = sym (set-out o at x h)
+  pub tuple-room : {n : ℕ} → at + n ≤ length o → j ≤ n → 1 ≤ j → at + (j - 1) < length o′
+  tuple-room h k l = omega (arith, storing-long w)
+
+  pub tuple-low : {n : ℕ} → at + n ≤ length o → j ≤ n → 1 ≤ j → at < length o′
+  tuple-low h k l = omega (arith, storing-long w)

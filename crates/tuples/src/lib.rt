@@ -7,9 +7,9 @@ ghost use Prim.Native.Nat.{_+_, _*_, _/_, _%_, _≤_, _<_, min};
 ghost use lib.ListN.{length, getD, drop, set};
 ghost use Rattle.buffer.specs.Written.{Wrote};
 ghost use Rattle.pairing.specs.Pairing.{gcd, lcm};
-ghost use Rattle.tuples.specs.Steps.{padded, stepsFrom, steps, entryAt, indexBefore, tupleIn, Small, Bounded};
+ghost use Rattle.tuples.specs.Steps.{padded, stepsFrom, steps, entryAt, indexBefore, tupleIn, Small, Bounded, Below, Spanned};
 ghost use Rattle.tuples.specs.Stored.{Stored};
-ghost use Rattle.tuples.specs.Nested.{stepsOfEach, tuplesIn, Indices};
+ghost use Rattle.tuples.specs.Nested.{stepsOfEach, tuplesIn, Indices, Roomy};
 
 // A quotient by 0 is 0, a remainder by 0 the number itself. Most numbers are below the divisor, and
 // a test is quicker than a division.
@@ -78,15 +78,6 @@ pub fn item(xs: &[u32], at: usize, i: usize) -> u32
     xs[at + i]
 }
 
-// Past the end nothing is stored.
-pub fn store(out: &mut [u32], at: usize, x: u32)
-    ensures { λ _. ⌜ now (out .exit) ≡ set (now (out .entry)) at x ⌝ }
-{
-    if at < out.len() {
-        out[at] = x;
-    }
-}
-
 fn push_step(out: &mut [u32], at: usize, n: u32, common: u32, size: u32) -> usize
     ensures { λ r. ⌜ Wrote (now (out .entry)) at (n ∷ common ∷ size ∷ []) (now (out .exit)) r ⌝ }
 {
@@ -146,41 +137,68 @@ pub fn prepare(
     push_steps(want, item(sizes, at, 0), sizes, at + 1, count - 1, out, a)
 }
 
-// Of row i, the index in the set of step j; the steps stand from `at` on.
-fn entry(steps: &[u32], at: usize, j: usize, i: u32) -> u32
-    requires { ⌜ Bounded at j ⌝ }
-    requires { ⌜ i ≤ 1000000 ⌝ }
-    ensures { λ r. ⌜ r ≡ entryAt (drop at (now (steps .entry))) j i ⌝ }
+// Whether x is below all three numbers of a step. Most are, and one test is quicker than three.
+fn below(x: u32, n: u32, common: u32, size: u32) -> bool
+    ensures { λ r. ⌜ Below x n common size r ⌝ }
 {
-    let common = item(steps, at, 3 * j + 1);
-    let size = item(steps, at, 3 * j + 2);
-    remainder(i + quotient(i, common), size)
+    if x < n {
+        if x < common { x < size } else { false }
+    } else {
+        false
+    }
 }
 
-// The row's index in the tuples that step j pairs.
-fn index_before(steps: &[u32], at: usize, j: usize, i: u32) -> u32
-    requires { ⌜ Bounded at j ⌝ }
-    ensures { λ r. ⌜ r ≡ indexBefore (drop at (now (steps .entry))) j i ⌝ }
-    ensures { λ r. ⌜ r ≤ i ⌝ }
+// Of row x, stores the index in the set of a step, and gives the row's index in the n tuples that
+// the step pairs.
+fn store_entry(x: u32, n: u32, common: u32, size: u32, out: &mut [u32], q: usize) -> u32
+    requires { ⌜ x ≤ 1000000 ⌝ }
+    requires { ⌜ q < length (now out) ⌝ }
+    ensures { λ _. ⌜ now (out .exit) ≡ set (now (out .entry)) q ((x + x / common) % size) ⌝ }
+    ensures { λ r. ⌜ r ≡ x % n ⌝ }
+    ensures { λ r. ⌜ r ≤ x ⌝ }
 {
-    remainder(i, item(steps, at, 3 * j))
+    if below(x, n, common, size) {
+        out[q] = x;
+        return x;
+    }
+    out[q] = remainder(x + quotient(x, common), size);
+    remainder(x, n)
+}
+
+// The same of the step at p.
+fn step(steps: &[u32], p: usize, x: u32, out: &mut [u32], q: usize) -> u32
+    requires { ⌜ p + 3 ≤ length (now steps) ⌝ }
+    requires { ⌜ x ≤ 1000000 ⌝ }
+    requires { ⌜ q < length (now out) ⌝ }
+    ensures { λ _. ⌜ now (out .exit) ≡ set (now (out .entry)) q (entryAt (drop p (now (steps .entry))) 0 x) ⌝ }
+    ensures { λ r. ⌜ r ≡ indexBefore (drop p (now (steps .entry))) 0 x ⌝ }
+    ensures { λ r. ⌜ r ≤ x ⌝ }
+{
+    store_entry(x, steps[p], steps[p + 1], steps[p + 2], out, q)
 }
 
 // Stores row i of a prepared pairing of `count` sets, whose steps stand from `at` on.
 pub fn tuple(steps: &[u32], at: usize, count: usize, i: u32, out: &mut [u32], to: usize)
-    requires { ⌜ Bounded at count ⌝ }
+    requires { ⌜ Spanned (now steps) at count (now out) to ⌝ }
     requires { ⌜ i ≤ 1000000 ⌝ }
-    requires { ⌜ to ≤ 1000000 ⌝ }
     ensures { λ _. ⌜ Stored (now (out .entry)) to (tupleIn (drop at (now (steps .entry))) count i) (now (out .exit)) ⌝ }
 {
+    if count == 0 {
+        return;
+    }
     let mut j = count;
     let mut x = i;
-    while 0 < j {
-        let v = entry(steps, at, j - 1, x);
-        store(out, to + (j - 1), v);
-        x = index_before(steps, at, j - 1, x);
+    while 1 < j {
+        x = step(steps, at + 3 * (j - 1), x, out, to + (j - 1));
         j -= 1;
     }
+    out[to] = x;
+}
+
+fn index(x: u32) -> usize
+    ensures { λ r. ⌜ r ≡ x ⌝ }
+{
+    x as usize
 }
 
 // A small number as an index.
@@ -190,6 +208,16 @@ fn count_at(counts: &[u32], i: usize) -> usize
     ensures { λ r. ⌜ r ≤ 4096 ⌝ }
 {
     item(counts, i, 0) as usize
+}
+
+// The same where there is such a count.
+fn count_of(counts: &[u32], i: usize) -> usize
+    requires { ⌜ Small (now counts) ⌝ }
+    requires { ⌜ i < length (now counts) ⌝ }
+    ensures { λ r. ⌜ r ≡ getD (now (counts .entry)) i 0 ⌝ }
+    ensures { λ r. ⌜ r ≤ 4096 ⌝ }
+{
+    index(counts[i])
 }
 
 // Prepares a pairing for each count wanted. How many sets each has stands in `counts`, and the
@@ -218,17 +246,15 @@ pub fn prepare_each(wants: &[u32], counts: &[u32], sizes: &[u32], out: &mut [u32
 pub fn tuple_each(steps: &[u32], counts: &[u32], rows: &[u32], out: &mut [u32]) -> usize
     requires { ⌜ Small (now counts) ⌝ }
     requires { ⌜ Indices (now rows) ⌝ }
-    requires { ⌜ length (now rows) ≤ 50 ⌝ }
+    requires { ⌜ Roomy (now steps) (now counts) (now rows) (now out) ⌝ }
     ensures { λ _. ⌜ Stored (now (out .entry)) 0 (tuplesIn (now (steps .entry)) (now (counts .entry)) (now (rows .entry))) (now (out .exit)) ⌝ }
     ensures { λ r. ⌜ r ≡ length (tuplesIn (now (steps .entry)) (now (counts .entry)) (now (rows .entry))) ⌝ }
 {
     let mut n = 0;
-    let mut from = 0;
     let mut to = 0;
     while n < rows.len() {
-        let count = count_at(counts, n);
-        tuple(steps, from, count, rows[n], out, to);
-        from += 3 * count;
+        let count = count_of(counts, n);
+        tuple(steps, 3 * to, count, rows[n], out, to);
         to += count;
         n += 1;
     }

@@ -1,6 +1,6 @@
 -- `population::column_item` meets its contract. Every number of a column is small.
 -- Assumes nothing.
-use Rattle.population.proofs.Rows.{column-small}
+use Rattle.population.proofs.Rows.{column-is, column-small}
 use borrow.Author.Needs.{needs}
 use Rattle.population.proofs.column_item.Statement.{statement}
 use Rattle.population.proofs.column_item.Tie as tie
@@ -9,5 +9,7 @@ pub column-item-spec : {M : Type 1} → statement M
 column-item-spec =
     tie.close
     (tie.spec
-    (λ c κs. search needs)
-    (λ c. search (needs, column-small)))
+    (λ c. search needs)
+    (λ c. search needs)
+    (λ c. search needs)
+    (λ c. search (needs, column-is, column-small)))

@@ -1,6 +1,6 @@
 -- `population::push_planned` meets its contract. The size, then the rows.
 -- Assumes nothing.
-use Rattle.population.proofs.Preds.{planned-is}
+use Rattle.population.proofs.Preds.{planned-count, planned-is}
 use borrow.Author.Needs.{needs}
 use Rattle.population.proofs.push_planned.Statement.{statement}
 use Rattle.population.proofs.push_planned.Tie as tie
@@ -13,5 +13,9 @@ push-planned-spec =
     (λ c κs. search needs)
     (λ c κs. search needs)
     (λ c κs. search needs)
+    (λ c κs. search needs)
+    (λ c. search needs)
+    (λ c. search needs)
+    (λ c κs. (search (needs, planned-count), (search needs, (search needs, search needs))))
     (λ c. search needs)
     (λ c. search (needs, planned-is)))

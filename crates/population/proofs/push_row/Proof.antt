@@ -1,6 +1,7 @@
 -- `population::push_row` meets its contract. The cells of the columns left come to the whole.
 -- Assumes nothing.
-use Prim.Native.Nat.{_+_, _*_, _≤_}
+use Prim.Native.Nat.{_+_, _*_}
+use mathlib.Core.Path.{_≡_}
 use lib.ListN.{drop}
 use Rattle.table.specs.Positions.{each}
 use Rattle.buffer.specs.Written.{Writing}
@@ -12,8 +13,7 @@ use Rattle.population.proofs.push_row.Statement.{statement}
 use Rattle.population.proofs.push_row.Tie as tie
 
 abbrev Inv-loop : tie.InvT-loop
-Inv-loop columns count flat out₀ at left₀ p₀ to₀ out left p to = (p + 4 * left ≤ 20000000000) × Writing out₀ at
-    (each (cellOf flat) 4 count columns) out to (each (cellOf flat) 4 left (drop p columns))
+Inv-loop columns count flat out₀ at left₀ p₀ to₀ out left p to = (p + 4 * left ≡ 4 * count) × Writing out₀ at (each (cellOf flat) 4 count columns) out to (each (cellOf flat) 4 left (drop p columns))
 
 abbrev μ-loop : tie.MeasureT-loop
 μ-loop columns count flat out₀ at left₀ p₀ to₀ out left p to = left

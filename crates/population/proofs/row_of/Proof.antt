@@ -1,7 +1,7 @@
 -- `population::row_of` meets its contract. The row by parts stands at the front of the scratch.
 -- Assumes nothing.
 use Rattle.population.proofs.Parts.{front-count}
-use Rattle.population.proofs.Rows.{room-counted, room-few, room-indices, flat-within, flat-small, row-of}
+use Rattle.population.proofs.Rows.{room-counted, room-indices, room-roomy, flat-within, flat-small, row-of}
 use borrow.Author.Needs.{needs}
 use Rattle.population.proofs.row_of.Statement.{statement}
 use Rattle.population.proofs.row_of.Tie as tie
@@ -10,11 +10,10 @@ pub row-of-spec : {M : Type 1} → statement M
 row-of-spec =
     tie.close
     (tie.spec
-    (λ c κs. search needs)
-    (λ c. search needs)
-    (λ c κs. (search (needs, room-counted), (search (needs, room-indices), search (needs, room-few))))
+    (λ c κs. (search (needs, room-counted), (search (needs, room-indices), search (needs, room-roomy))))
     (λ c. search (needs, flat-within))
     (λ c. search (needs, front-count, flat-within))
-    (λ c κs. (search needs, search (needs, flat-small)))
+    (λ c κs. (search needs, (search needs, search (needs, flat-small))))
+    (λ c. search needs)
     (λ c. search needs)
     (λ c. search (needs, row-of)))

@@ -5,18 +5,16 @@ use mathlib.Core.Path.{_≡_}
 use lib.ListN.{length, drop}
 use Rattle.tuples.specs.Stored.{Storing, storing-start, storing-long}
 use Rattle.tuples.specs.Nested.{tuplesIn}
-use Rattle.tuples.proofs.Sided.{index-fits, sided-more, sided-count, sided-all, sided-length}
+use Rattle.tuples.proofs.Sided.{index-fits, sided-more, sided-count, sided-spanned, sided-all, sided-length}
 use borrow.Author.Needs.{needs}
 use Rattle.tuples.proofs.tuple_each.Statement.{statement}
 use Rattle.tuples.proofs.tuple_each.Tie as tie
 
 abbrev Inv-loop : tie.InvT-loop
-Inv-loop steps counts rows out₀ n₀ from₀ to₀ out n from to = (n ≤ length rows) × (from ≤ 12288 * n) × (to ≤ 4096 * n) × Storing out₀ 0
-    (tuplesIn steps counts rows) out to (tuplesIn (drop from steps) (drop n counts) (drop n rows)) ×
-    (to + length (tuplesIn (drop from steps) (drop n counts) (drop n rows)) ≡ length (tuplesIn steps counts rows))
+Inv-loop steps counts rows out₀ n₀ to₀ out n to = (n ≤ length rows) × (to ≤ 4096 * n) × Storing out₀ 0 (tuplesIn steps counts rows) out to (tuplesIn (drop (3 * to) steps) (drop n counts) (drop n rows)) × (to + length (tuplesIn (drop (3 * to) steps) (drop n counts) (drop n rows)) ≡ length (tuplesIn steps counts rows))
 
 abbrev μ-loop : tie.MeasureT-loop
-μ-loop steps counts rows out₀ n₀ from₀ to₀ out n from to = length rows - n
+μ-loop steps counts rows out₀ n₀ to₀ out n to = length rows - n
 
 pub tuple-each-spec : {M : Type 1} → statement M
 tuple-each-spec =
@@ -28,9 +26,8 @@ tuple-each-spec =
     (λ c κs. search needs)
     (λ c. search needs)
     (λ c. search needs)
-    (λ c κs. (search needs, (search (needs, index-fits), search needs)))
     (λ c. search needs)
-    (λ c. search needs)
+    (λ c κs. (search (needs, sided-spanned), search (needs, index-fits)))
     (λ c. search needs)
     (λ c. search needs)
     (λ c. search needs)

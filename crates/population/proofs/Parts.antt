@@ -206,8 +206,5 @@ module _ (t c : List ℕ) (x : Cursor) (f : Few t x) {s s′ : List ℕ} {n : �
     pub roles-within : n ≤ length s′
     roles-within = wrote-within w roles-fit
 
-    pub role-sizes-is : {o o′ : List ℕ} {at to : ℕ} → Wrote o at (sizesOf c (take n s′)) o′ to → Wrote o at (sizesOf c (order (placedAt t x))) o′ to
-    role-sizes-is v = wrote-as v (ap (sizesOf c) (wrote-front w roles-fit))
-
 pub front-count : (l : List ℕ) (m : ℕ) → m ≤ length l → m ≡ length (take m l)
 front-count l m h = sym (length-take-le m l h)

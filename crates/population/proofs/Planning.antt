@@ -2,21 +2,18 @@
 use Prim.Native.Nat.{ℕ, zero, suc, _+_, _*_, _-_, _≤_, _<_}
 use native.Mathlib.Omega.{arith}
 use mathlib.Core.Path.{_≡_, refl, sym, ap, ap₂, _∙_}
-use mathlib.Core.List.{List, [], _∷_, _++_, map, flatten, append-nil}
-use lib.ListN.{length, getD, drop, take, length-map, List·getD-map, List·getD-eq-default}
-use native.Mathlib.Decide.{decLe}
-use Rattle.counting.specs.Lists.{mapFrom}
-use Rattle.orm.specs.Diagram.{Diagram, Role}
+use mathlib.Core.List.{List, [], _∷_, map, append-nil}
+use lib.ListN.{length, getD, drop, take, length-map}
 use Rattle.orm.specs.Sets.{Part, parts}
 use Rattle.orm.specs.Populate.{size}
 use Rattle.buffer.specs.Written.{Wrote}
-use Rattle.buffer.specs.Laws.{wrote-as, wrote-front, wrote-within, wrote-end}
+use Rattle.buffer.specs.Laws.{wrote-as, wrote-front, wrote-within}
 use Rattle.table.specs.Cursors.{placedAt}
 use Rattle.table.specs.declared.Cursor.{Cursor}
 use Rattle.tuples.specs.Steps.{padded, steps, Small, Bounded}
 use Rattle.tuples.specs.StepsLaws.{padded-front}
 use Rattle.tuples.specs.Nested.{stepsOfEach}
-use Rattle.population.specs.Plan.{order, counts, owns, sizesOf, columnOf, Wants, Listed, Few}
+use Rattle.population.specs.Plan.{order, counts, owns, sizesOf, Wants, Listed, Few, Ordered, Owned}
 use Rattle.population.proofs.Parts.{order-few, parts-few}
 
 -- sizes of sets are small
@@ -35,49 +32,51 @@ sizes-small c sets h = record { at = map-small (size c) sets (λ s. h .at s) }
 padded-all : (xs : List ℕ) → padded (length xs) xs ≡ xs
 padded-all xs = sym (ap (padded (length xs)) (append-nil xs)) ∙ padded-front xs []
 
-module _ (t c : List ℕ) (x : Cursor) (f : Few t x) {s s′ : List ℕ} {n : ℕ} where
-  module _ (room : length s ≡ 12) (w : Wrote s 0 (owns c (placedAt t x)) s′ n) where
+pub few-bounded : (sizes : List ℕ) → length sizes ≤ 12 → Bounded 0 (length sizes)
+few-bounded sizes h = record { from = omega arith; few = omega arith }
+
+pub rows-planned : (c : List ℕ) (own : ℕ) (sizes : List ℕ) {o o′ : List ℕ} {at to want : ℕ} → want ≡ getD c own 0
+    → Wrote o at (steps want (padded (length sizes) (drop 0 sizes))) o′ to → Wrote o at (steps (getD c own 0) sizes) o′ to
+rows-planned c own sizes ew v = wrote-as v (ap₂ {C = List ℕ} (λ a b. steps a b) ew (padded-all sizes))
+
+module _ (t c : List ℕ) (x : Cursor) where
+  owns-few : Few t x → length (owns c (placedAt t x)) ≤ 12
+  owns-few f = let long : length (owns c (placedAt t x)) ≡ length (parts (placedAt t x)) = unfold owns in length-map (parts (placedAt t x))
+      (λ (b : Part). size c (b .own)) in omega (arith, long, parts-few t x f)
+
+  module _ (f : Few t x) {s s′ : List ℕ} {n : ℕ} (room : length s ≡ 12) (w : Wrote s 0 (owns c (placedAt t x)) s′ n) where
     fits : length (owns c (placedAt t x)) ≤ length s
-    fits = let long : length (owns c (placedAt t x)) ≡ length (parts (placedAt t x)) = unfold owns in length-map (parts (placedAt t x))
-        (λ (b : Part). size c (b .own)) in omega (arith, long, parts-few t x f, room)
+    fits = omega (arith, owns-few f, room)
 
     pub owns-within : n ≤ length s′
     owns-within = wrote-within w fits
 
-    pub owns-bounded : Bounded 0 n
-    owns-bounded = record { from = omega arith; few = omega (arith, wrote-end w fits, fits, room) }
+    pub owned : Owned t c x (take n s′)
+    owned = record { are = wrote-front w fits }
 
-    pub owns-front : Small c → Small (take n s′)
-    owns-front h = rw (wrote-front w fits) (owns-small c t x h)
+module _ {t c sizes : List ℕ} {x : Cursor} (o : Owned t c x sizes) where
+  pub owned-small : Small c → Small sizes
+  owned-small h = rw (o .are) (owns-small c t x h)
 
-    pub rows-planned : (own : ℕ) {o o′ : List ℕ} {at to want : ℕ} → want ≡ getD c own 0
-        → Wrote o at (steps want (padded n (drop 0 (take n s′)))) o′ to
-        → Wrote o at (steps (getD c own 0) (owns c (placedAt t x))) o′ to
-    rows-planned own ew v =
-        let e : padded n (drop 0 (take n s′)) ≡ owns c (placedAt t x) = ap (padded n) (wrote-front w fits) ∙ ap
-        (λ (m : ℕ). padded m (owns c (placedAt t x))) (wrote-end w fits) ∙ padded-all (owns c (placedAt t x)) in
-        wrote-as v (ap₂ {C = List ℕ} (λ a b. steps a b) ew e)
+  pub owned-few : Few t x → length sizes ≤ 12
+  owned-few f = omega (arith, ap length (o .are), owns-few t c x f)
 
-    pub owns-wanted : {ks : List ℕ} → Small c → Small ks → Wants (take n s′) ks
-    owns-wanted h k = rw (wrote-front w fits) (record { few = omega (arith, fits, room); wanted = owns-small c t x h; counted = k })
+  pub owned-wanted : {ks : List ℕ} → Few t x → Small c → Small ks → Wants sizes ks
+  owned-wanted f h k = record { few = omega (arith, owned-few f); wanted = owned-small h; counted = k }
 
-    pub parts-planned : (ks rs : List ℕ) {o o′ : List ℕ} {at to : ℕ} → Wrote o at (stepsOfEach (take n s′) ks rs) o′ to
-        → Wrote o at (stepsOfEach (owns c (placedAt t x)) ks rs) o′ to
-    parts-planned ks rs v = wrote-as v (ap (λ (l : List ℕ). stepsOfEach l ks rs) (wrote-front w fits))
+module _ (c roles : List ℕ) {s s′ : List ℕ} {n : ℕ} (few : length roles ≤ 42) (room : length s ≡ 42) (w : Wrote s 0 (sizesOf c roles) s′ n) where
+  sizes-fit : length (sizesOf c roles) ≤ length s
+  sizes-fit = rw length-map (omega (arith, few, room))
 
-  module _ (room : length s ≡ 42) (w : Wrote s 0 (sizesOf c (order (placedAt t x))) s′ n) where
-    sizes-fit : length (sizesOf c (order (placedAt t x))) ≤ length s
-    sizes-fit = rw length-map (omega (arith, order-few t x f, room))
+  pub sizes-within : n ≤ length s′
+  sizes-within = wrote-within w sizes-fit
 
-    pub sizes-within : n ≤ length s′
-    sizes-within = wrote-within w sizes-fit
+  pub sizes-front : Small c → Small (take n s′)
+  sizes-front h = rw (wrote-front w sizes-fit) (sizes-small c roles h)
 
-    pub sizes-front : Small c → Small (take n s′)
-    sizes-front h = rw (wrote-front w sizes-fit) (sizes-small c (order (placedAt t x)) h)
-
-    pub planned-with : (ws ks : List ℕ) {o o′ : List ℕ} {at to : ℕ} → Wrote o at (stepsOfEach ws ks (take n s′)) o′ to
-        → Wrote o at (stepsOfEach ws ks (sizesOf c (order (placedAt t x)))) o′ to
-    planned-with ws ks v = wrote-as v (ap (stepsOfEach ws ks) (wrote-front w sizes-fit))
+  pub planned-with : (ws ks : List ℕ) {o o′ : List ℕ} {at to : ℕ} → Wrote o at (stepsOfEach ws ks (take n s′)) o′ to
+      → Wrote o at (stepsOfEach ws ks (sizesOf c roles)) o′ to
+  planned-with ws ks v = wrote-as v (ap (stepsOfEach ws ks) (wrote-front w sizes-fit))
 
 pub wants-few : {ws ks : List ℕ} → Wants ws ks → length ws ≤ 100
 wants-few w = w .few
@@ -90,17 +89,15 @@ counts-small w = w .counted
 
 -- ---- the order of the roles
 
-module _ (t : List ℕ) (x : Cursor) (f : Few t x) {s s′ : List ℕ} {n : ℕ} (room : length s ≡ 42) (w : Wrote s 0 (order (placedAt t x)) s′ n) where
-  order-fits : length (order (placedAt t x)) ≤ length s
-  order-fits = omega (arith, order-few t x f, room)
+module _ (t : List ℕ) (x : Cursor) (f : Few t x) where
+  pub ordered : {s s′ : List ℕ} {n : ℕ} → length s ≡ 42 → Wrote s 0 (order (placedAt t x)) s′ n → Ordered t x (take n s′)
+  ordered {s} room w =
+      let fit : length (order (placedAt t x)) ≤ length s = omega (arith, order-few t x f, room) in
+      record { are = wrote-front w fit }
 
-  pub order-front : take n s′ ≡ order (placedAt t x)
-  order-front = wrote-front w order-fits
+  module _ {roles : List ℕ} (o : Ordered t x roles) where
+    pub ordered-few : length roles ≤ 42
+    ordered-few = omega (arith, ap length (o .are), order-few t x f)
 
-  pub order-listed : {types : List ℕ} → length types ≤ 96 → Listed types (take n s′)
-  order-listed h = rw order-front (record { few-types = h; few-roles = order-few t x f })
-
-  pub columns-planned : (d : Diagram) (c types : List ℕ) (rs : List Role) (p : ℕ) {o o′ : List ℕ} {at to : ℕ}
-      → Wrote o at (flatten (mapFrom (columnOf d c types (take n s′)) p rs)) o′ to
-      → Wrote o at (flatten (mapFrom (columnOf d c types (order (placedAt t x))) p rs)) o′ to
-  columns-planned d c types rs p v = wrote-as v (ap (λ (l : List ℕ). flatten (mapFrom (columnOf d c types l) p rs)) order-front)
+    pub ordered-listed : {types : List ℕ} → length types ≤ 96 → Listed types roles
+    ordered-listed h = record { few-types = h; few-roles = ordered-few }

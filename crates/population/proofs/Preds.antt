@@ -27,10 +27,12 @@ use Rattle.table.specs.Laws.Valid.{valid-walkable, under-nil, under-cons, under
 use Rattle.table.specs.declared.Cursor.{Cursor}
 use Rattle.tuples.specs.Steps.{steps, tupleIn, Small}
 use Rattle.tuples.specs.Nested.{stepsOfEach, tuplesIn, length-steps}
-use Rattle.population.specs.Plan.{order, counts, owns, sizesOf, position, played, share, columnOf, cellOf, rowBy, cellsBy, Few, RoleTypes, Planned, Ready, Columned, Stepped, Prepared}
+use Rattle.population.specs.Plan.{order, counts, owns, sizesOf, position, played, columnOf, rowBy}
+use Rattle.population.specs.Plan.{Few, RoleTypes, Wants, Planned, Ready, Ordered, Columned, Owned, Stepped, Prepared, Complete}
 use Rattle.population.proofs.Types.{first-small}
 use Rattle.population.proofs.Columns.{columnsFrom}
 use Rattle.population.proofs.Parts.{order-few, parts-few, role-count, group-count, counts-few, counted-small}
+use Rattle.population.proofs.Planning.{owned-wanted, ordered-few}
 use Rattle.population.proofs.RowLaws.{inner, outer, flat-long, row-by, inner-long}
 
 -- ---- columns are small
@@ -99,13 +101,12 @@ types-few r = r .small-enough
 pub ready-few : {t c : List ℕ} {x : Cursor} → Ready t c x → Few t x
 ready-few r = r .few
 
-module _ (types : List ℕ) {t c : List ℕ} {x : Cursor} (ready : Ready t c x) {s s′ : List ℕ} {n : ℕ} (room : length s ≡ 24)
-    (w : Wrote s 0 (columnsFrom (diagramOf t) c types (order (placedAt t x)) (x .roles) (placedAt t x .predicate .roles)) s′ n) where
-  columns-fit : length (columnsFrom (diagramOf t) c types (order (placedAt t x)) (x .roles) (placedAt t x .predicate .roles)) ≤ length s
+module _ (types roles : List ℕ) {t c : List ℕ} {x : Cursor} (ready : Ready t c x) {s s′ : List ℕ} {n : ℕ} (room : length s ≡ 24)
+    (w : Wrote s 0 (columnsFrom (diagramOf t) c types roles (x .roles) (placedAt t x .predicate .roles)) s′ n) where
+  columns-fit : length (columnsFrom (diagramOf t) c types roles (x .roles) (placedAt t x .predicate .roles)) ≤ length s
   columns-fit = omega (
     arith,
-    columns-length (diagramOf t) c types (order (placedAt t x)) (x .roles)
-        (placedAt t x .predicate .roles),
+    columns-length (diagramOf t) c types roles (x .roles) (placedAt t x .predicate .roles),
     role-count t x,
     ready .few .roles,
     room,
@@ -114,15 +115,21 @@ module _ (types : List ℕ) {t c : List ℕ} {x : Cursor} (ready : Ready t c x) 
   pub columns-within : n ≤ length s′
   columns-within = wrote-within w columns-fit
 
-  pub columned : RoleTypes t types → Columned t c x (take n s′)
-  columned typed = record { types = types; typed = typed; are = wrote-front w columns-fit }
+  pub columned : RoleTypes t types → Ordered t x roles → Columned t c x roles (take n s′)
+  columned typed o = record {
+    ordered = o;
+    types = types;
+    typed = typed;
+    are = wrote-front w columns-fit ∙ ap (λ (l : List ℕ). columnsFrom (diagramOf t) c types l (x .roles) (placedAt t x .predicate .roles)) (o .are);
+  }
 
 module _ {t c : List ℕ} {x : Cursor} (ready : Ready t c x) {s s′ : List ℕ} {n : ℕ} where
-  pub stepped : length s ≡ 36 → Wrote s 0 (steps (getD c (x .own) 0) (owns c (placedAt t x))) s′ n → Stepped t c x s′
-  stepped room w =
-      let fits : length (steps (getD c (x .own) 0) (owns c (placedAt t x))) ≤ length s =
+  pub stepped : {sizes : List ℕ} → length s ≡ 36 → Owned t c x sizes → Wrote s 0 (steps (getD c (x .own) 0) sizes) s′ n → Stepped t c x sizes s′
+  stepped room o w =
+      let whole : List ℕ = steps (getD c (x .own) 0) (owns c (placedAt t x)) in
+      let fits : length whole ≤ length s =
       omega (arith, length-steps (getD c (x .own) 0) (owns c (placedAt t x)), owns-length c (placedAt t x), parts-few t x (ready .few), room) in
-      record { rest = drop (length (steps (getD c (x .own) 0) (owns c (placedAt t x)))) s; is = wrote-whole w fits }
+      record { owned = o; rest = drop (length whole) s; is = wrote-whole (wrote-as w (ap (steps (getD c (x .own) 0)) (o .are))) fits }
 
   module _ (room : length s ≡ 12) (w : Wrote s 0 (counts (placedAt t x)) s′ n) where
     counts-fit : length (counts (placedAt t x)) ≤ length s
@@ -131,11 +138,17 @@ module _ {t c : List ℕ} {x : Cursor} (ready : Ready t c x) {s s′ : List ℕ}
     pub counts-within : n ≤ length s′
     counts-within = wrote-within w counts-fit
 
-    pub prepared : {columns os : List ℕ} → Columned t c x columns → Stepped t c x os → Prepared t c x columns os (take n s′)
+    pub prepared : {roles columns sizes os : List ℕ} → Columned t c x roles columns → Stepped t c x sizes os
+        → Prepared t c x roles columns sizes os (take n s′)
     prepared p q = record { columned = p; stepped = q; ks-are = wrote-front w counts-fit }
 
-pub prepared-small : {t c columns os ks : List ℕ} {x : Cursor} → Ready t c x → Prepared t c x columns os ks → Small ks
-prepared-small {t} {x = x} ready p = rw (p .ks-are) (record { at = λ k. omega (arith, counted-small t x (ready .few) .at k) })
+module _ {t c roles columns sizes os ks : List ℕ} {x : Cursor} (ready : Ready t c x) (p : Prepared t c x roles columns sizes os ks) where
+  pub prepared-few : length roles ≤ 42
+  prepared-few = ordered-few t x (ready .few) (p .columned .ordered)
+
+  pub prepared-wanted : Wants sizes ks
+  prepared-wanted = owned-wanted (p .stepped .owned) (ready .few) (ready .sizes)
+      (rw (p .ks-are) (record { at = λ k. omega (arith, counted-small t x (ready .few) .at k) }))
 
 -- ---- the rows
 
@@ -144,9 +157,8 @@ unfolding flatMap flatten
 flat-rows f g [] h = refl
 flat-rows f g (i ∷ is) h = ap₂ {C = List ℕ} (λ a b. a ++ b) (h i) (flat-rows f g is h)
 
-module _ {t c : List ℕ} {x : Cursor} (ready : Ready t c x) {columns os ks is is′ : List ℕ} {a : ℕ} (p : Prepared t c x columns os ks)
-    (room : length is ≡ 126)
-    (w : Wrote is 0 (stepsOfEach (owns c (placedAt t x)) ks (sizesOf c (order (placedAt t x)))) is′ a) where
+module _ {t c : List ℕ} {x : Cursor} (ready : Ready t c x) {roles columns sizes os ks is is′ : List ℕ} {a : ℕ}
+    (p : Prepared t c x roles columns sizes os ks) (room : length is ≡ 126) (w : Wrote is 0 (stepsOfEach sizes ks (sizesOf c roles)) is′ a) where
   abbrev px : Placed
   px = placedAt t x
 
@@ -155,7 +167,8 @@ module _ {t c : List ℕ} {x : Cursor} (ready : Ready t c x) {columns os ks is i
 
   inner-whole : is′ ≡ inner c px ++ rest′
   unfolding rest′
-  inner-whole = wrote-whole (rw (p .ks-are) at w) (omega (arith, inner-long c px, order-few t x (ready .few), room))
+  inner-whole = wrote-whole (rw (p .stepped .owned .are, p .ks-are, p .columned .ordered .are) at w)
+      (omega (arith, inner-long c px, order-few t x (ready .few), room))
 
   outer-whole : os ≡ outer c px ++ p .stepped .rest
   unfolding placedAt
@@ -165,7 +178,8 @@ module _ {t c : List ℕ} {x : Cursor} (ready : Ready t c x) {columns os ks is i
   unfolding placedAt
   columns-whole = p .columned .are
 
-  columns-wide : 4 * getD (drop (x .at) t) 2 0 ≤ length (columnsFrom (diagramOf t) c (p .columned .types) (order px) (px .roles) (px .predicate .roles))
+  columns-wide : 4 * getD (drop (x .at) t) 2 0
+      ≤ length (columnsFrom (diagramOf t) c (p .columned .types) (order px) (px .roles) (px .predicate .roles))
   columns-wide = omega (
     arith,
     columns-length (diagramOf t) c (p .columned .types) (order px) (px .roles) (px .predicate .roles),
@@ -185,9 +199,9 @@ module _ {t c : List ℕ} {x : Cursor} (ready : Ready t c x) {columns os ks is i
       ≤ length (inner c px ++ rest′)
   inner-there i = omega (arith, flat-long c px (p .stepped .rest) rest′ i, length-append (inner c px) rest′, inner-long c px)
 
-  pub prepared-planned : {m : ℕ} → m ≡ getD (drop (x .at) t) 2 0 → Planned m columns os ks is′
-  prepared-planned em =
-      rw (em, columns-whole, outer-whole, p .ks-are, inner-whole)
+  prepared-planned : Planned (getD (drop (x .at) t) 2 0) columns os ks is′
+  prepared-planned =
+      rw (columns-whole, outer-whole, p .ks-are, inner-whole)
       (record {
         wide = columns-wide;
         stepped = outer-there;
@@ -199,30 +213,32 @@ module _ {t c : List ℕ} {x : Cursor} (ready : Ready t c x) {columns os ks is i
         enough = λ i. omega (arith, flat-long c px (p .stepped .rest) rest′ i, order-few t x (ready .few));
       })
 
-  row-made : {m : ℕ} → m ≡ getD (drop (x .at) t) 2 0 → (i : ℕ) → rowBy columns m os ks is′ i ≡ row (diagramOf t) c px i
-  row-made em i = rw (columns-whole, outer-whole, p .ks-are, inner-whole, em, ← role-count t x)
+  row-made : (i : ℕ) → rowBy columns (getD (drop (x .at) t) 2 0) os ks is′ i ≡ row (diagramOf t) c px i
+  row-made i = rw (columns-whole, outer-whole, p .ks-are, inner-whole, ← role-count t x)
       (row-by (diagramOf t) c px (p .columned .typed .are) (p .stepped .rest) rest′ i)
 
-  pub pred-is : {b at : ℕ} {o o₁ : List ℕ} → Wrote o at (cellsBy columns os ks is′ (getD c (x .own) 0) (getD (drop (x .at) t) 2 0)) o₁ b
-      → Wrote o at (cellsOfPred (rows (diagramOf t) c (placedAt t x))) o₁ b
-  unfolding cellsBy cellsOfPred rows
-  pred-is v =
-      let own : getD c (x .own) 0 ≡ size c (px .own) = unfold placedAt in refl in
-      let many : length (map (row (diagramOf t) c px) (upFrom 0 (size c (px .own)))) ≡ size c (px .own) = length-map (upFrom 0 (size c (px .own)))
-      (row (diagramOf t) c px) ∙ length-upFrom 0 (size c (px .own)) in
-      let count : ℕ = getD (drop (x .at) t) 2 0 in
-      wrote-as v
+  pub prepared-complete : Complete t c x columns os ks is′
+  prepared-complete = record { planned = prepared-planned; gives = row-made }
+
+module _ {t c columns os ks is : List ℕ} {x : Cursor} (p : Complete t c x columns os ks is) where
+  pub complete-planned : {m : ℕ} → m ≡ getD (drop (x .at) t) 2 0 → Planned m columns os ks is
+  complete-planned e = rw e (p .planned)
+
+  abbrev at-x : Placed
+  at-x = placedAt t x
+
+  -- the size, then the rows
+  pub pred-is : {n m to b at : ℕ} {o o₁ o₂ : List ℕ} → n ≡ getD c (x .own) 0 → m ≡ getD (drop (x .at) t) 2 0 → Wrote o at (n ∷ []) o₁ to
+      → Wrote o₁ to (flatMap (rowBy columns m os ks is) (upFrom 0 n)) o₂ b → Wrote o at (cellsOfPred (rows (diagramOf t) c (placedAt t x))) o₂ b
+  unfolding cellsOfPred rows
+  pred-is {n} {m} en em w v =
+      let own : n ≡ size c (at-x .own) = unfold placedAt in en in
+      let many : length (map (row (diagramOf t) c at-x) (upFrom 0 (size c (at-x .own)))) ≡ size c (at-x .own) = length-map
+      (upFrom 0 (size c (at-x .own))) (row (diagramOf t) c at-x) ∙ length-upFrom 0 (size c (at-x .own)) in
+      wrote-as (wrote-then w v)
       (ap₂ {C = List ℕ} (λ k l. k ∷ l) (own ∙ sym many)
-      (flat-rows (rowBy columns count os ks is′) (row (diagramOf t) c px) (upFrom 0 (getD c (x .own) 0)) (row-made refl)
-      ∙ ap (λ (k : ℕ). flatten (map (row (diagramOf t) c px) (upFrom 0 k))) own))
-
-pub planned-count : {m k : ℕ} {columns os ks is : List ℕ} → Planned k columns os ks is → m ≡ k → Planned m columns os ks is
-planned-count p e = rw e p
-
-pub planned-is : (columns os ks is : List ℕ) {n n′ m m′ to b at : ℕ} {o o₁ o₂ : List ℕ} → n ≡ n′ → m ≡ m′ → Wrote o at (n ∷ []) o₁ to
-    → Wrote o₁ to (flatMap (rowBy columns m os ks is) (upFrom 0 n)) o₂ b → Wrote o at (cellsBy columns os ks is n′ m′) o₂ b
-unfolding cellsBy
-planned-is columns os ks is en em w v = rw (← en, ← em) (wrote-then w v)
+      (flat-rows (rowBy columns m os ks is) (row (diagramOf t) c at-x) (upFrom 0 n) (λ i. rw em (p .gives i))
+      ∙ ap (λ (k : ℕ). flatten (map (row (diagramOf t) c at-x) (upFrom 0 k))) own))
 
 -- ---- all predicates
 

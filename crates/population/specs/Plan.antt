@@ -5,10 +5,10 @@ use mathlib.Core.Bool.{Bool, true, false}
 use mathlib.Core.List.{List, [], _∷_, _++_, flatMap, flatten, map}
 use lib.Dec.{eqb}
 use lib.ListN.{length, getD, drop}
-use Rattle.counting.specs.Lists.{upFrom, mapFrom}
+use Rattle.counting.specs.Lists.{mapFrom}
 use Rattle.orm.specs.Diagram.{Diagram, Role, index, allRoles}
 use Rattle.orm.specs.Sets.{Placed, Part, parts, groupRoles, firstRole}
-use Rattle.orm.specs.Populate.{size, firstValue, takenBefore}
+use Rattle.orm.specs.Populate.{size, firstValue, takenBefore, row}
 use Rattle.table.specs.Positions.{each, diagramOf, Walkable}
 use Rattle.table.specs.Cursors.{placedAt, Reach}
 use Rattle.table.specs.Valid.{Under}
@@ -75,10 +75,6 @@ cellOf flat s = getD s 0 0 + (getD s 2 0 + getD flat (getD s 3 0) 0) % getD s 1 
 unfoldable pub rowBy : List ℕ → ℕ → List ℕ → List ℕ → List ℕ → ℕ → List ℕ
 rowBy columns count outer ks inner i = each (cellOf (tuplesIn inner ks (tupleIn outer (length ks) i))) 4 count columns
 
--- The cells of a predicate of this size, with so many roles
-unfoldable pub cellsBy : List ℕ → List ℕ → List ℕ → List ℕ → ℕ → ℕ → List ℕ
-cellsBy columns outer ks inner size count = size ∷ flatMap (rowBy columns count outer ks inner) (upFrom 0 size)
-
 -- ---- that all of it is small
 
 -- Counts wanted, and counts of sets
@@ -125,19 +121,34 @@ pub record Ready (t c : List ℕ) (x : Cursor) : Type 0 where
   pub reach : Reach x 1
   pub few : Few t x
 
+-- The roles of its parts, part by part
+pub record Ordered (t : List ℕ) (x : Cursor) (roles : List ℕ) : Type 0 where
+  pub are : roles ≡ order (placedAt t x)
+
 -- Its columns
-pub record Columned (t c : List ℕ) (x : Cursor) (columns : List ℕ) : Type 0 where
+pub record Columned (t c : List ℕ) (x : Cursor) (roles columns : List ℕ) : Type 0 where
+  pub ordered : Ordered t x roles
   pub types : List ℕ
   pub typed : RoleTypes t types
   pub are : columns ≡ flatten (mapFrom (columnOf (diagramOf t) c types (order (placedAt t x))) (x .roles) (placedAt t x .predicate .roles))
 
+-- The sizes of its parts
+pub record Owned (t c : List ℕ) (x : Cursor) (sizes : List ℕ) : Type 0 where
+  pub are : sizes ≡ owns c (placedAt t x)
+
 -- The steps of its parts, whatever stands behind them
-pub record Stepped (t c : List ℕ) (x : Cursor) (outer : List ℕ) : Type 0 where
+pub record Stepped (t c : List ℕ) (x : Cursor) (sizes outer : List ℕ) : Type 0 where
+  pub owned : Owned t c x sizes
   pub rest : List ℕ
   pub is : outer ≡ steps (size c (x .own)) (owns c (placedAt t x)) ++ rest
 
 -- Both, and how many roles each part has
-pub record Prepared (t c : List ℕ) (x : Cursor) (columns outer ks : List ℕ) : Type 0 where
-  pub columned : Columned t c x columns
-  pub stepped : Stepped t c x outer
+pub record Prepared (t c : List ℕ) (x : Cursor) (roles columns sizes outer ks : List ℕ) : Type 0 where
+  pub columned : Columned t c x roles columns
+  pub stepped : Stepped t c x sizes outer
   pub ks-are : ks ≡ counts (placedAt t x)
+
+-- All that is prepared, which gives the rows of the definition
+pub record Complete (t c : List ℕ) (x : Cursor) (columns outer ks inner : List ℕ) : Type 0 where
+  pub planned : Planned (getD (drop (x .at) t) 2 0) columns outer ks inner
+  pub gives : (i : ℕ) → rowBy columns (getD (drop (x .at) t) 2 0) outer ks inner i ≡ row (diagramOf t) c (placedAt t x) i

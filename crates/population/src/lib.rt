@@ -21,7 +21,8 @@ ghost use Rattle.tuples.specs.Nested.{stepsOfEach};
 ghost use Rattle.table.specs.Positions.{each};
 ghost use Rattle.table.specs.Valid.{Under, Valid};
 ghost use Rattle.tuples.specs.Nested.{tuplesIn, Indices};
-ghost use Rattle.population.specs.Plan.{order, counts, groupCounts, owns, sizesOf, position, played, share, columnOf, cellOf, rowBy, cellsBy, Listed, Few, RoleTypes, Wants, Room, Planned, Ready, Columned, Stepped, Prepared};
+ghost use Rattle.population.specs.Plan.{order, counts, groupCounts, owns, sizesOf, position, played, share, columnOf, cellOf, rowBy};
+ghost use Rattle.population.specs.Plan.{Listed, Few, RoleTypes, Wants, Room, Planned, Ready, Ordered, Columned, Owned, Stepped, Prepared, Complete};
 
 // ---- types
 
@@ -424,78 +425,29 @@ fn part_sizes(t: &[u32], c: &[u32], x: table::Cursor, out: &mut [u32]) -> usize
     push_sizes(c, &sets[..n], out)
 }
 
-fn role_sizes(t: &[u32], c: &[u32], x: table::Cursor, out: &mut [u32]) -> usize
-    requires { ⌜ Walkable (now t) ⌝ }
-    requires { ⌜ Small (now c) ⌝ }
-    requires { ⌜ Reach x 1 ⌝ }
-    requires { ⌜ Few (now t) x ⌝ }
-    ensures { λ r. ⌜ Wrote (now (out .entry)) 0 (sizesOf (now (c .entry)) (order (placedAt (now (t .entry)) x))) (now (out .exit)) r ⌝ }
-{
-    let mut sets = role_space();
-    let n = push_order(t, x, &mut sets);
-    push_sizes(c, &sets[..n], out)
-}
-
 // ---- what is prepared for a predicate
 
-// The steps by which its parts are paired to rows.
-fn plan_rows(t: &[u32], c: &[u32], x: table::Cursor, out: &mut [u32]) -> usize
-    requires { ⌜ Walkable (now t) ⌝ }
+// The steps by which parts of these sizes are paired to the rows of the set `own`.
+fn plan_rows(c: &[u32], own: u32, sizes: &[u32], out: &mut [u32]) -> usize
     requires { ⌜ Small (now c) ⌝ }
-    requires { ⌜ Reach x 1 ⌝ }
-    requires { ⌜ Few (now t) x ⌝ }
-    ensures { λ r. ⌜ Wrote (now (out .entry)) 0 (steps (getD (now (c .entry)) (x .own) 0) (owns (now (c .entry)) (placedAt (now (t .entry)) x))) (now (out .exit)) r ⌝ }
+    requires { ⌜ Small (now sizes) ⌝ }
+    requires { ⌜ length (now sizes) ≤ 12 ⌝ }
+    ensures { λ r. ⌜ Wrote (now (out .entry)) 0 (steps (getD (now (c .entry)) own 0) (now (sizes .entry))) (now (out .exit)) r ⌝ }
 {
-    let mut sizes = part_space();
-    let n = part_sizes(t, c, x, &mut sizes);
-    tuples::prepare(size(c, x.own), &sizes[..n], 0, n, out, 0)
+    tuples::prepare(size(c, own), sizes, 0, sizes.len(), out, 0)
 }
 
-fn plan_with(
-    t: &[u32],
-    c: &[u32],
-    x: table::Cursor,
-    wants: &[u32],
-    ks: &[u32],
-    out: &mut [u32],
-) -> usize
-    requires { ⌜ Walkable (now t) ⌝ }
+// The steps by which the roles of each part are paired, of parts of the sizes `wants`; `roles` are
+// the roles of all parts, and `ks` has how many of them each part has.
+fn plan_parts(c: &[u32], roles: &[u32], wants: &[u32], ks: &[u32], out: &mut [u32]) -> usize
     requires { ⌜ Small (now c) ⌝ }
-    requires { ⌜ Reach x 1 ⌝ }
-    requires { ⌜ Few (now t) x ⌝ }
+    requires { ⌜ length (now roles) ≤ 42 ⌝ }
     requires { ⌜ Wants (now wants) (now ks) ⌝ }
-    ensures { λ r. ⌜ Wrote (now (out .entry)) 0 (stepsOfEach (now (wants .entry)) (now (ks .entry)) (sizesOf (now (c .entry)) (order (placedAt (now (t .entry)) x)))) (now (out .exit)) r ⌝ }
+    ensures { λ r. ⌜ Wrote (now (out .entry)) 0 (stepsOfEach (now (wants .entry)) (now (ks .entry)) (sizesOf (now (c .entry)) (now (roles .entry)))) (now (out .exit)) r ⌝ }
 {
     let mut sizes = role_space();
-    let n = role_sizes(t, c, x, &mut sizes);
+    let n = push_sizes(c, roles, &mut sizes);
     tuples::prepare_each(wants, ks, &sizes[..n], out)
-}
-
-// The steps by which each part's roles are paired; `ks` has how many roles each part has.
-fn plan_parts(t: &[u32], c: &[u32], x: table::Cursor, ks: &[u32], out: &mut [u32]) -> usize
-    requires { ⌜ Walkable (now t) ⌝ }
-    requires { ⌜ Small (now c) ⌝ }
-    requires { ⌜ Reach x 1 ⌝ }
-    requires { ⌜ Few (now t) x ⌝ }
-    requires { ⌜ Small (now ks) ⌝ }
-    ensures { λ r. ⌜ Wrote (now (out .entry)) 0 (stepsOfEach (owns (now (c .entry)) (placedAt (now (t .entry)) x)) (now (ks .entry)) (sizesOf (now (c .entry)) (order (placedAt (now (t .entry)) x)))) (now (out .exit)) r ⌝ }
-{
-    let mut wants = part_space();
-    let n = part_sizes(t, c, x, &mut wants);
-    plan_with(t, c, x, &wants[..n], ks, out)
-}
-
-fn plan_columns(t: &[u32], c: &[u32], types: &[u32], x: table::Cursor, out: &mut [u32]) -> usize
-    requires { ⌜ Walkable (now t) ⌝ }
-    requires { ⌜ Small (now c) ⌝ }
-    requires { ⌜ length (now types) ≤ 96 ⌝ }
-    requires { ⌜ Reach x 1 ⌝ }
-    requires { ⌜ Few (now t) x ⌝ }
-    ensures { λ r. ⌜ Wrote (now (out .entry)) 0 (flatten (mapFrom (columnOf (diagramOf (now (t .entry))) (now (c .entry)) (now (types .entry)) (order (placedAt (now (t .entry)) x))) (x .roles) (placedAt (now (t .entry)) x .predicate .roles))) (now (out .exit)) r ⌝ }
-{
-    let mut roles = role_space();
-    let n = push_order(t, x, &mut roles);
-    push_columns(t, c, types, &roles[..n], x, out)
 }
 
 // ---- rows
@@ -654,8 +606,8 @@ fn push_planned(
     at: usize,
 ) -> usize
     requires { ⌜ Ready (now t) (now c) x ⌝ }
-    requires { ⌜ Planned (getD (drop (x .at) (now t)) 2 0) (now columns) (now outer) (now ks) (now inner) ⌝ }
-    ensures { λ r. ⌜ Wrote (now (out .entry)) at (cellsBy (now (columns .entry)) (now (outer .entry)) (now (ks .entry)) (now (inner .entry)) (getD (now (c .entry)) (x .own) 0) (getD (drop (x .at) (now (t .entry))) 2 0)) (now (out .exit)) r ⌝ }
+    requires { ⌜ Complete (now t) (now c) x (now columns) (now outer) (now ks) (now inner) ⌝ }
+    ensures { λ r. ⌜ Wrote (now (out .entry)) at (cellsOfPred (rows (diagramOf (now (t .entry))) (now (c .entry)) (placedAt (now (t .entry)) x))) (now (out .exit)) r ⌝ }
 {
     let size = size(c, x.own);
     let count = table::field(t, x.at, 2);
@@ -681,18 +633,20 @@ fn push_prepared(
     t: &[u32],
     c: &[u32],
     x: table::Cursor,
+    roles: &[u32],
     columns: &[u32],
+    sizes: &[u32],
     outer: &[u32],
     ks: &[u32],
     out: &mut [u32],
     at: usize,
 ) -> usize
     requires { ⌜ Ready (now t) (now c) x ⌝ }
-    requires { ⌜ Prepared (now t) (now c) x (now columns) (now outer) (now ks) ⌝ }
+    requires { ⌜ Prepared (now t) (now c) x (now roles) (now columns) (now sizes) (now outer) (now ks) ⌝ }
     ensures { λ r. ⌜ Wrote (now (out .entry)) at (cellsOfPred (rows (diagramOf (now (t .entry))) (now (c .entry)) (placedAt (now (t .entry)) x))) (now (out .exit)) r ⌝ }
 {
     let mut inner = role_step_space();
-    plan_parts(t, c, x, ks, &mut inner);
+    plan_parts(c, roles, sizes, ks, &mut inner);
     push_planned(t, c, x, columns, outer, ks, &inner, out, at)
 }
 
@@ -701,37 +655,81 @@ fn push_stepped(
     t: &[u32],
     c: &[u32],
     x: table::Cursor,
+    roles: &[u32],
     columns: &[u32],
+    sizes: &[u32],
     outer: &[u32],
     out: &mut [u32],
     at: usize,
 ) -> usize
     requires { ⌜ Ready (now t) (now c) x ⌝ }
-    requires { ⌜ Columned (now t) (now c) x (now columns) ⌝ }
-    requires { ⌜ Stepped (now t) (now c) x (now outer) ⌝ }
+    requires { ⌜ Columned (now t) (now c) x (now roles) (now columns) ⌝ }
+    requires { ⌜ Stepped (now t) (now c) x (now sizes) (now outer) ⌝ }
     ensures { λ r. ⌜ Wrote (now (out .entry)) at (cellsOfPred (rows (diagramOf (now (t .entry))) (now (c .entry)) (placedAt (now (t .entry)) x))) (now (out .exit)) r ⌝ }
 {
     let mut ks = part_space();
     let m = push_counts(t, x, &mut ks);
-    push_prepared(t, c, x, columns, outer, &ks[..m], out, at)
+    push_prepared(t, c, x, roles, columns, sizes, outer, &ks[..m], out, at)
 }
 
-// The same, with the steps of the parts prepared here.
+// The same, with the steps by which the parts are paired to rows prepared here.
+fn push_sized(
+    t: &[u32],
+    c: &[u32],
+    x: table::Cursor,
+    roles: &[u32],
+    columns: &[u32],
+    sizes: &[u32],
+    out: &mut [u32],
+    at: usize,
+) -> usize
+    requires { ⌜ Ready (now t) (now c) x ⌝ }
+    requires { ⌜ Columned (now t) (now c) x (now roles) (now columns) ⌝ }
+    requires { ⌜ Owned (now t) (now c) x (now sizes) ⌝ }
+    ensures { λ r. ⌜ Wrote (now (out .entry)) at (cellsOfPred (rows (diagramOf (now (t .entry))) (now (c .entry)) (placedAt (now (t .entry)) x))) (now (out .exit)) r ⌝ }
+{
+    let mut outer = row_step_space();
+    plan_rows(c, x.own, sizes, &mut outer);
+    push_stepped(t, c, x, roles, columns, sizes, &outer, out, at)
+}
+
+// The same, with the sizes of the parts found here.
 fn push_columned(
     t: &[u32],
     c: &[u32],
     x: table::Cursor,
+    roles: &[u32],
     columns: &[u32],
     out: &mut [u32],
     at: usize,
 ) -> usize
     requires { ⌜ Ready (now t) (now c) x ⌝ }
-    requires { ⌜ Columned (now t) (now c) x (now columns) ⌝ }
+    requires { ⌜ Columned (now t) (now c) x (now roles) (now columns) ⌝ }
     ensures { λ r. ⌜ Wrote (now (out .entry)) at (cellsOfPred (rows (diagramOf (now (t .entry))) (now (c .entry)) (placedAt (now (t .entry)) x))) (now (out .exit)) r ⌝ }
 {
-    let mut outer = row_step_space();
-    plan_rows(t, c, x, &mut outer);
-    push_stepped(t, c, x, columns, &outer, out, at)
+    let mut sizes = part_space();
+    let n = part_sizes(t, c, x, &mut sizes);
+    push_sized(t, c, x, roles, columns, &sizes[..n], out, at)
+}
+
+// The same, with the columns prepared here; `types` has the types of all roles.
+fn push_ordered(
+    t: &[u32],
+    c: &[u32],
+    types: &[u32],
+    x: table::Cursor,
+    roles: &[u32],
+    out: &mut [u32],
+    at: usize,
+) -> usize
+    requires { ⌜ Ready (now t) (now c) x ⌝ }
+    requires { ⌜ RoleTypes (now t) (now types) ⌝ }
+    requires { ⌜ Ordered (now t) x (now roles) ⌝ }
+    ensures { λ r. ⌜ Wrote (now (out .entry)) at (cellsOfPred (rows (diagramOf (now (t .entry))) (now (c .entry)) (placedAt (now (t .entry)) x))) (now (out .exit)) r ⌝ }
+{
+    let mut columns = column_space();
+    let n = push_columns(t, c, types, roles, x, &mut columns);
+    push_columned(t, c, x, roles, &columns[..n], out, at)
 }
 
 // The same from the table, the sizes and the types of all roles.
@@ -747,9 +745,9 @@ fn push_pred(
     requires { ⌜ RoleTypes (now t) (now types) ⌝ }
     ensures { λ r. ⌜ Wrote (now (out .entry)) at (cellsOfPred (rows (diagramOf (now (t .entry))) (now (c .entry)) (placedAt (now (t .entry)) x))) (now (out .exit)) r ⌝ }
 {
-    let mut columns = column_space();
-    let n = plan_columns(t, c, types, x, &mut columns);
-    push_columned(t, c, x, &columns[..n], out, at)
+    let mut roles = role_space();
+    let n = push_order(t, x, &mut roles);
+    push_ordered(t, c, types, x, &roles[..n], out, at)
 }
 
 fn push_preds(t: &[u32], c: &[u32], types: &[u32], out: &mut [u32], at: usize) -> usize

@@ -5,7 +5,7 @@ use mathlib.Core.Path.{_≡_, refl, sym, ap, _∙_}
 use mathlib.Core.List.{List, [], _∷_, _++_}
 use lib.ListN.{length, getD, drop, length-append}
 use lib.Seq.{getD-drop}
-use Rattle.tuples.specs.Steps.{tupleIn, Small, Bounded, Spanned}
+use Rattle.tuples.specs.Steps.{tupleIn, Small, Spanned}
 use Rattle.tuples.specs.StepsLaws.{length-tupleIn}
 use Rattle.tuples.specs.Stored.{Stored, Storing, storing-more, storing-all, storing-long}
 use Rattle.tuples.specs.Nested.{tuplesIn, Indices, Roomy, tuples-more, tuples-none}

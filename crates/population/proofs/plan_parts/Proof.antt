@@ -1,7 +1,7 @@
--- `population::plan_parts` meets its contract. The parts' sizes stand at the front of the scratch.
+-- `population::plan_parts` meets its contract. The sizes of the roles stand at the front of the scratch.
 -- Assumes nothing.
 use Rattle.population.proofs.Parts.{front-count}
-use Rattle.population.proofs.Planning.{owns-within, owns-wanted, parts-planned}
+use Rattle.population.proofs.Planning.{sizes-within, sizes-front, planned-with, wants-few, wants-small, counts-small}
 use borrow.Author.Needs.{needs}
 use Rattle.population.proofs.plan_parts.Statement.{statement}
 use Rattle.population.proofs.plan_parts.Tie as tie
@@ -13,8 +13,8 @@ plan-parts-spec =
     (λ c κs. search needs)
     (λ c. search needs)
     (λ c κs. search needs)
-    (λ c. search (needs, owns-within))
-    (λ c. search (needs, front-count, owns-within))
-    (λ c κs. (search needs, (search needs, (search needs, (search needs, search (needs, owns-wanted))))))
+    (λ c. search (needs, sizes-within))
+    (λ c. search (needs, front-count, sizes-within))
+    (λ c κs. (search (needs, wants-small), (search (needs, counts-small), (search (needs, sizes-front), search (needs, wants-few)))))
     (λ c. search needs)
-    (λ c. search (needs, parts-planned)))
+    (λ c. search (needs, planned-with)))

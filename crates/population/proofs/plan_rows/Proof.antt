@@ -1,7 +1,6 @@
--- `population::plan_rows` meets its contract. The parts' sizes stand at the front of the scratch.
+-- `population::plan_rows` meets its contract. All of the sizes.
 -- Assumes nothing.
-use Rattle.population.proofs.Parts.{front-count}
-use Rattle.population.proofs.Planning.{owns-within, owns-bounded, owns-front, rows-planned}
+use Rattle.population.proofs.Planning.{few-bounded, rows-planned}
 use borrow.Author.Needs.{needs}
 use Rattle.population.proofs.plan_rows.Statement.{statement}
 use Rattle.population.proofs.plan_rows.Tie as tie
@@ -11,11 +10,6 @@ plan-rows-spec =
     tie.close
     (tie.spec
     (λ c κs. search needs)
-    (λ c. search needs)
-    (λ c κs. search needs)
-    (λ c κs. search needs)
-    (λ c. search (needs, owns-within))
-    (λ c. search (needs, front-count, owns-within))
-    (λ c κs. (search (needs, owns-front), (search needs, search (needs, owns-bounded))))
+    (λ c κs. (search needs, (search needs, search (needs, few-bounded))))
     (λ c. search needs)
     (λ c. search (needs, rows-planned)))

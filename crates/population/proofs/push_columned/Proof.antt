@@ -1,6 +1,7 @@
--- `population::push_columned` meets its contract. The steps stand at the front of the scratch.
+-- `population::push_columned` meets its contract. The sizes of the parts stand at the front of the scratch.
 -- Assumes nothing.
-use Rattle.population.proofs.Preds.{stepped}
+use Rattle.population.proofs.Parts.{front-count}
+use Rattle.population.proofs.Planning.{owns-within, owned}
 use borrow.Author.Needs.{needs}
 use Rattle.population.proofs.push_columned.Statement.{statement}
 use Rattle.population.proofs.push_columned.Tie as tie
@@ -12,7 +13,8 @@ push-columned-spec =
     (λ c κs. search needs)
     (λ c. search needs)
     (λ c κs. search needs)
-    (λ c. search needs)
-    (λ c κs. (search needs, (search needs, search (needs, stepped))))
+    (λ c. search (needs, owns-within))
+    (λ c. search (needs, front-count, owns-within))
+    (λ c κs. (search needs, (search needs, search (needs, owned))))
     (λ c. search needs)
     (λ c. search needs))

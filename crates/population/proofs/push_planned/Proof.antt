@@ -1,6 +1,6 @@
 -- `population::push_planned` meets its contract. The size, then the rows.
 -- Assumes nothing.
-use Rattle.population.proofs.Preds.{planned-count, planned-is}
+use Rattle.population.proofs.Preds.{complete-planned, pred-is}
 use borrow.Author.Needs.{needs}
 use Rattle.population.proofs.push_planned.Statement.{statement}
 use Rattle.population.proofs.push_planned.Tie as tie
@@ -16,6 +16,6 @@ push-planned-spec =
     (λ c κs. search needs)
     (λ c. search needs)
     (λ c. search needs)
-    (λ c κs. (search (needs, planned-count), (search needs, (search needs, search needs))))
+    (λ c κs. (search (needs, complete-planned), (search needs, (search needs, search needs))))
     (λ c. search needs)
-    (λ c. search (needs, planned-is)))
+    (λ c. search (needs, pred-is)))

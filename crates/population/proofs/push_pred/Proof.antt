@@ -1,7 +1,7 @@
--- `population::push_pred` meets its contract. The columns stand at the front of the scratch.
+-- `population::push_pred` meets its contract. The roles of the parts stand at the front of the scratch.
 -- Assumes nothing.
-use Rattle.population.proofs.Parts.{front-count}
-use Rattle.population.proofs.Preds.{types-few, columns-within, columned}
+use Rattle.population.proofs.Parts.{front-count, roles-within}
+use Rattle.population.proofs.Planning.{ordered}
 use borrow.Author.Needs.{needs}
 use Rattle.population.proofs.push_pred.Statement.{statement}
 use Rattle.population.proofs.push_pred.Tie as tie
@@ -12,9 +12,9 @@ push-pred-spec =
     (tie.spec
     (λ c κs. search needs)
     (λ c. search needs)
-    (λ c κs. (search needs, (search needs, (search (needs, types-few), (search needs, search needs)))))
-    (λ c. search (needs, columns-within))
-    (λ c. search (needs, front-count, columns-within))
-    (λ c κs. (search needs, search (needs, columned)))
+    (λ c κs. search needs)
+    (λ c. search (needs, roles-within))
+    (λ c. search (needs, front-count, roles-within))
+    (λ c κs. (search needs, (search needs, search (needs, ordered))))
     (λ c. search needs)
     (λ c. search needs))

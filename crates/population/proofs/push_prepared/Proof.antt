@@ -1,6 +1,6 @@
--- `population::push_prepared` meets its contract. The rows made from what is prepared are those of the definition.
+-- `population::push_prepared` meets its contract. What is prepared gives the rows of the definition.
 -- Assumes nothing.
-use Rattle.population.proofs.Preds.{prepared-small, prepared-planned, pred-is}
+use Rattle.population.proofs.Preds.{prepared-few, prepared-wanted, prepared-complete}
 use borrow.Author.Needs.{needs}
 use Rattle.population.proofs.push_prepared.Statement.{statement}
 use Rattle.population.proofs.push_prepared.Tie as tie
@@ -11,8 +11,10 @@ push-prepared-spec =
     (tie.spec
     (λ c κs. search needs)
     (λ c. search needs)
-    (λ c κs. (search needs, (search needs, (search needs, (search needs, search (needs, prepared-small))))))
+    (λ c κs. (search needs, (search (needs, prepared-few), search (needs, prepared-wanted))))
     (λ c. search needs)
-    (λ c κs. (search needs, search (needs, prepared-planned)))
+    (λ c κs.
+    let start = c .before .before .before .before .before .before .before .before .before .before .before .before .before .before in
+    (search needs, search (needs, prepared-complete, start .pre .0, start .pre .1)))
     (λ c. search needs)
-    (λ c. search (needs, pred-is)))
+    (λ c. search needs))

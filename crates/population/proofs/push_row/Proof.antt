@@ -13,7 +13,8 @@ use Rattle.population.proofs.push_row.Statement.{statement}
 use Rattle.population.proofs.push_row.Tie as tie
 
 abbrev Inv-loop : tie.InvT-loop
-Inv-loop columns count flat out₀ at left₀ p₀ to₀ out left p to = (p + 4 * left ≡ 4 * count) × Writing out₀ at (each (cellOf flat) 4 count columns) out to (each (cellOf flat) 4 left (drop p columns))
+Inv-loop columns count flat out₀ at left₀ p₀ to₀ out left p to =
+    (p + 4 * left ≡ 4 * count) × Writing out₀ at (each (cellOf flat) 4 count columns) out to (each (cellOf flat) 4 left (drop p columns))
 
 abbrev μ-loop : tie.MeasureT-loop
 μ-loop columns count flat out₀ at left₀ p₀ to₀ out left p to = left

@@ -12,7 +12,9 @@ use Rattle.population.proofs.push_up.Statement.{statement}
 use Rattle.population.proofs.push_up.Tie as tie
 
 abbrev Inv-loop : tie.InvT-loop
-Inv-loop out₀ at first count left₀ x₀ to₀ out left x to = (x + left ≤ 300000000) × (left ≤ length out - to) × (to + left ≡ at + fitting first count out₀ at) × Writing out₀ at (upFrom first (fitting first count out₀ at)) out to (upFrom x left)
+Inv-loop out₀ at first count left₀ x₀ to₀ out left x to =
+    (x + left ≤ 300000000) × (left ≤ length out - to) × (to + left ≡ at + fitting first count out₀ at) ×
+    Writing out₀ at (upFrom first (fitting first count out₀ at)) out to (upFrom x left)
 
 abbrev μ-loop : tie.MeasureT-loop
 μ-loop out₀ at first count left₀ x₀ to₀ out left x to = left

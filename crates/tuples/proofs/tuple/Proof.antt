@@ -9,7 +9,8 @@ use Rattle.tuples.proofs.tuple.Statement.{statement}
 use Rattle.tuples.proofs.tuple.Tie as tie
 
 abbrev Inv-loop : tie.InvT-loop
-Inv-loop steps at count i out₀ to j₀ x₀ out j x = (1 ≤ j) × (j ≤ count) × (x ≤ 1000000) × Storing out₀ to (tupleIn (drop at steps) count i) out to (tupleIn (drop at steps) j x)
+Inv-loop steps at count i out₀ to j₀ x₀ out j x =
+    (1 ≤ j) × (j ≤ count) × (x ≤ 1000000) × Storing out₀ to (tupleIn (drop at steps) count i) out to (tupleIn (drop at steps) j x)
 
 abbrev μ-loop : tie.MeasureT-loop
 μ-loop steps at count i out₀ to j₀ x₀ out j x = j

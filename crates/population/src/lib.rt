@@ -483,8 +483,8 @@ fn cell(columns: &[u32], p: usize, flat: &[u32]) -> u32
     first + tuples::remainder(start + member(flat, place), size)
 }
 
-// A row of `count` columns, given by parts.
-fn push_row(columns: &[u32], count: u32, flat: &[u32], out: &mut [u32], at: usize) -> usize
+// A row of `count` columns, given by parts, as much of it as there is room for.
+fn push_cells(columns: &[u32], count: u32, flat: &[u32], out: &mut [u32], at: usize) -> usize
     requires { ⌜ Under 999999 (now columns) ⌝ }
     requires { ⌜ 4 * count ≤ length (now columns) ⌝ }
     requires { ⌜ Under 2000000 (now flat) ⌝ }
@@ -499,6 +499,48 @@ fn push_row(columns: &[u32], count: u32, flat: &[u32], out: &mut [u32], at: usiz
         left -= 1;
     }
     to
+}
+
+// Where there is room for it, a number needs no test.
+fn store(out: &mut [u32], at: usize, x: u32) -> usize
+    requires { ⌜ at < length (now out) ⌝ }
+    ensures { λ r. ⌜ Wrote (now (out .entry)) at (x ∷ []) (now (out .exit)) r ⌝ }
+    ensures { λ r. ⌜ r ≡ at + 1 ⌝ }
+{
+    out[at] = x;
+    at + 1
+}
+
+// The same row where there is room for all of it.
+fn store_cells(columns: &[u32], count: u32, flat: &[u32], out: &mut [u32], at: usize) -> usize
+    requires { ⌜ Under 999999 (now columns) ⌝ }
+    requires { ⌜ 4 * count ≤ length (now columns) ⌝ }
+    requires { ⌜ Under 2000000 (now flat) ⌝ }
+    requires { ⌜ count ≤ length (now out) - at ⌝ }
+    ensures { λ r. ⌜ Wrote (now (out .entry)) at (each (cellOf (now (flat .entry))) 4 count (now (columns .entry))) (now (out .exit)) r ⌝ }
+{
+    let mut left = count;
+    let mut p = 0;
+    let mut to = at;
+    while 0 < left {
+        to = store(out, to, cell(columns, p, flat));
+        p += 4;
+        left -= 1;
+    }
+    to
+}
+
+// The row, with one test of the room.
+fn push_row(columns: &[u32], count: u32, flat: &[u32], out: &mut [u32], at: usize) -> usize
+    requires { ⌜ Under 999999 (now columns) ⌝ }
+    requires { ⌜ 4 * count ≤ length (now columns) ⌝ }
+    requires { ⌜ Under 2000000 (now flat) ⌝ }
+    ensures { λ r. ⌜ Wrote (now (out .entry)) at (each (cellOf (now (flat .entry))) 4 count (now (columns .entry))) (now (out .exit)) r ⌝ }
+{
+    if fitting(out.len(), at, count) < count {
+        return push_cells(columns, count, flat, out, at);
+    }
+    store_cells(columns, count, flat, out, at)
 }
 
 // The row whose parts have the tuples `rows`; `flat` is scratch.

@@ -135,12 +135,81 @@ fn header(out: &mut [u32], at: usize, kind: u32, target: u32, factor: u32, count
     buffer::push(out, c, count)
 }
 
-// One operand.
-fn unary(out: &mut [u32], at: usize, kind: u32, target: u32, factor: u32, operand: u32) -> usize
+// One operand, as much of it as there is room for.
+fn push_unary(
+    out: &mut [u32],
+    at: usize,
+    kind: u32,
+    target: u32,
+    factor: u32,
+    operand: u32,
+) -> usize
     ensures { λ r. ⌜ Wrote (now (out .entry)) at (kind ∷ target ∷ factor ∷ 1 ∷ operand ∷ []) (now (out .exit)) r ⌝ }
 {
     let a = header(out, at, kind, target, factor, 1);
     buffer::push(out, a, operand)
+}
+
+// Where there is room for it, a number needs no test.
+fn store(out: &mut [u32], at: usize, x: u32) -> usize
+    requires { ⌜ at < length (now out) ⌝ }
+    ensures { λ r. ⌜ Wrote (now (out .entry)) at (x ∷ []) (now (out .exit)) r ⌝ }
+    ensures { λ r. ⌜ r ≡ at + 1 ⌝ }
+{
+    out[at] = x;
+    at + 1
+}
+
+// A header where there is room for it.
+fn store_header(
+    out: &mut [u32],
+    at: usize,
+    kind: u32,
+    target: u32,
+    factor: u32,
+    count: u32,
+) -> usize
+    requires { ⌜ 4 ≤ length (now out) - at ⌝ }
+    ensures { λ r. ⌜ Wrote (now (out .entry)) at (kind ∷ target ∷ factor ∷ count ∷ []) (now (out .exit)) r ⌝ }
+    ensures { λ r. ⌜ r ≡ at + 4 ⌝ }
+{
+    let a = store(out, at, kind);
+    let b = store(out, a, target);
+    let c = store(out, b, factor);
+    store(out, c, count)
+}
+
+// One operand where there is room for the five numbers.
+fn store_unary(
+    out: &mut [u32],
+    at: usize,
+    kind: u32,
+    target: u32,
+    factor: u32,
+    operand: u32,
+) -> usize
+    requires { ⌜ 5 ≤ length (now out) - at ⌝ }
+    ensures { λ r. ⌜ Wrote (now (out .entry)) at (kind ∷ target ∷ factor ∷ 1 ∷ operand ∷ []) (now (out .exit)) r ⌝ }
+{
+    let a = store_header(out, at, kind, target, factor, 1);
+    store(out, a, operand)
+}
+
+// How many numbers a buffer has from the index `at` on.
+fn room(length: usize, at: usize) -> usize
+    ensures { λ r. ⌜ r ≡ length - at ⌝ }
+{
+    if length < at { 0 } else { length - at }
+}
+
+// One operand, with one test of the room.
+fn unary(out: &mut [u32], at: usize, kind: u32, target: u32, factor: u32, operand: u32) -> usize
+    ensures { λ r. ⌜ Wrote (now (out .entry)) at (kind ∷ target ∷ factor ∷ 1 ∷ operand ∷ []) (now (out .exit)) r ⌝ }
+{
+    if room(out.len(), at) < 5 {
+        return push_unary(out, at, kind, target, factor, operand);
+    }
+    store_unary(out, at, kind, target, factor, operand)
 }
 
 fn push_at_most(out: &mut [u32], at: usize, s: u32, most: u32) -> usize

@@ -123,11 +123,14 @@ fn is_single(limits: &[u32], at: usize) -> bool
     at + 4 < limits.len()
 }
 
-// Most limits are the size of one set.
+// Most limits are the size of one set, which is read off at once.
 fn value_at(limits: &[u32], at: usize, old: &[u32]) -> u32
     requires { ⌜ at + 4 ≤ length (now limits) ⌝ }
     ensures { λ r. ⌜ r ≡ min 4096 (valueOf (now (old .entry)) (limitAt (now (limits .entry)) at .most)) ⌝ }
 {
+    if limits[at] != 0 {
+        return value_of(limits, at, old);
+    }
     if is_single(limits, at) {
         return cut(size(old, limits[at + 4]));
     }

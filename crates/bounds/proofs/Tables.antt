@@ -139,6 +139,9 @@ module _ {t : List ℕ} (v : Valid t) where
       pub check-bounds : Bounds l (take k b′)
       check-bounds = rw (low .are, wrote-front w upper-room) (start-bounds (diagramOf t) (v .formed))
 
+      pub few-upper : FewLowers t l → length (take k b′) < 32
+      few-upper few = omega (arith, check-bounds .paired, few .few)
+
       pub checked : {ls s s′ : List ℕ} {r : CheckAnswer} → Limits t ls
           → Answered (ended (run (decode ls) l (take k b′)) (length s)) r s s′ → Answered (checkCall t (length s)) r s s′
       unfolding verdict

@@ -1,6 +1,7 @@
 // The check: the sizes of a diagram's sets, from its table. The bounds and limits of the sets are
 // written into local arrays, and the rounds run over them.
 ghost use mathlib.Core.Path.{_≡_};
+ghost use Prim.Native.Nat.{_<_};
 ghost use lib.ListN.{length};
 ghost use Rattle.fixpoint.specs.Limits.{fixpoint, run};
 ghost use Rattle.lowering.specs.Encoding.{decode};
@@ -72,6 +73,43 @@ fn check_in(
     answer(limits, lower, &mut upper[..k], sizes)
 }
 
+// The rounds of few sets and their end.
+fn answer_few(limits: &[u32], lower: &[u32], upper: &mut [u32], sizes: &mut [u32]) -> CheckAnswer
+    requires { ⌜ Bounds (now lower) (now upper) ⌝ }
+    requires { ⌜ length (now upper) < 32 ⌝ }
+    ensures { λ r.
+        ⌜ Answered (ended (run (decode (now (limits .entry))) (now (lower .entry)) (now (upper .entry))) (length (now (sizes .entry)))) r
+        (now (sizes .entry)) (now (sizes .exit)) ⌝ }
+{
+    let outcome = rounds::settle_few(limits, lower, upper);
+    match outcome {
+        rounds::Outcome::Unsatisfiable { set: s, round: n } => CheckAnswer::Unsatisfiable {
+            set: s + 1,
+            round: n,
+        },
+        rounds::Outcome::Fixpoint { rounds } => fit(upper, rounds, sizes),
+        rounds::Outcome::Refused => CheckAnswer::TooShort { needed: 0 },
+    }
+}
+
+// The same of few sets. A function of its own, as the room of the other takes time to set aside.
+fn check_in_few(
+    table: &[u32],
+    limits: &[u32],
+    lower: &[u32],
+    upper: &mut [u32],
+    sizes: &mut [u32],
+) -> CheckAnswer
+    requires { ⌜ Valid (now table) ⌝ }
+    requires { ⌜ Limits (now table) (now limits) ⌝ }
+    requires { ⌜ Lowers (now table) (now lower) (now upper) ⌝ }
+    requires { ⌜ FewLowers (now table) (now lower) ⌝ }
+    ensures { λ r. ⌜ Answered (checkCall (now (table .entry)) (length (now (sizes .entry)))) r (now (sizes .entry)) (now (sizes .exit)) ⌝ }
+{
+    let k = limits::write_upper(table, upper);
+    answer_few(limits, lower, &mut upper[..k], sizes)
+}
+
 // A call's result is a name in what is to be proved; an array written in place is all its numbers.
 fn limit_space() -> [u32; 6752] {
     [0u32; 6752]
@@ -124,7 +162,7 @@ fn check_few(table: &[u32], limits: &[u32], lower: &[u32], sizes: &mut [u32]) ->
     ensures { λ r. ⌜ Answered (checkCall (now (table .entry)) (length (now (sizes .entry)))) r (now (sizes .entry)) (now (sizes .exit)) ⌝ }
 {
     let mut upper = few_sets();
-    check_in(table, limits, lower, &mut upper, sizes)
+    check_in_few(table, limits, lower, &mut upper, sizes)
 }
 
 // With room for few limits.

@@ -268,10 +268,7 @@ fn start_small(limits: &[u32], lower: &[u32], upper: &mut [u32], next: &mut [u32
     if first_round(limits, upper, next) {
         return Outcome::Fixpoint { rounds: 1 };
     }
-    if limits.len() < 128 {
-        return rounds_small(limits, lower, upper, next);
-    }
-    rounds_large(limits, lower, upper, next)
+    rounds_small(limits, lower, upper, next)
 }
 
 fn settle_large(limits: &[u32], lower: &[u32], upper: &mut [u32]) -> Outcome
@@ -311,10 +308,22 @@ pub fn settle_over(limits: &[u32], lower: &[u32], upper: &mut [u32]) -> Outcome
     if let Place::At(set) = first_below(lower, upper) {
         return Outcome::Unsatisfiable { set, round: 0 };
     }
-    if upper.len() < 32 {
-        return settle_small(limits, lower, upper);
-    }
     settle_large(limits, lower, upper)
+}
+
+// The same of few sets, with little scratch; its index has room where the limits are fewer than 128 numbers.
+pub fn settle_few(limits: &[u32], lower: &[u32], upper: &mut [u32]) -> Outcome
+    requires { ⌜ Bounds (now lower) (now upper) ⌝ }
+    requires { ⌜ length (now upper) < 32 ⌝ }
+    ensures { λ r. ⌜ r ≡ outcomeOf (run (decode (now (limits .entry))) (now (lower .entry)) (now (upper .entry))) ⌝ }
+    ensures { λ _.
+        ⌜ now (upper .exit)
+        ≡ upperOf (run (decode (now (limits .entry))) (now (lower .entry)) (now (upper .entry))) (now (upper .exit)) ⌝ }
+{
+    if let Place::At(set) = first_below(lower, upper) {
+        return Outcome::Unsatisfiable { set, round: 0 };
+    }
+    settle_small(limits, lower, upper)
 }
 
 // The same on a copy, which is scratch, with `upper` written at a fixpoint alone.

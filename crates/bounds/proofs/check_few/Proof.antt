@@ -11,6 +11,6 @@ check-few-spec =
     (tie.spec
     (λ c κs. search needs)
     (λ c. search needs)
-    (λ c κs. search (needs, few-lowers))
+    (λ c κs. (search needs, (search needs, (search (needs, few-lowers), search needs))))
     (λ c. search needs)
     (λ c. search needs))

@@ -17,7 +17,4 @@ settle-over-spec =
     (λ c. search needs)
     (λ c κs. search (needs, start-ready))
     (λ c. search needs)
-    (λ c. search needs)
-    (λ c κs. search (needs, start-ready))
-    (λ c. search needs)
     (λ c. search needs))

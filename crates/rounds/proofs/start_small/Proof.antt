@@ -16,8 +16,4 @@ start-small-spec =
     (λ c κs. search (needs, ready-stepped))
     (λ c. search needs)
     (λ c. search needs)
-    (λ c. search needs)
-    (λ c κs. search (needs, ready-stepped))
-    (λ c. search needs)
-    (λ c. search needs)
     (λ c. search needs))

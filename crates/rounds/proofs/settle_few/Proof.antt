@@ -1,0 +1,20 @@
+-- `rounds::settle_few` meets its contract. No upper bound is below its lower bound at the start, or the run ends there.
+-- Assumes nothing.
+use Rattle.rounds.proofs.Running.{start-outcome, start-upper, start-ready}
+use Rattle.rounds.proofs.Ends.{bounds-paired}
+use borrow.Author.Needs.{needs}
+use Rattle.rounds.proofs.settle_few.Statement.{statement}
+use Rattle.rounds.proofs.settle_few.Tie as tie
+
+pub settle-few-spec : {M : Type 1} → statement M
+settle-few-spec =
+    tie.close
+    (tie.spec
+    (λ c κs. search (needs, bounds-paired))
+    (λ c. search needs)
+    (λ c. search needs)
+    (λ c. search (needs, start-outcome, start-upper))
+    (λ c. search needs)
+    (λ c κs. search (needs, start-ready))
+    (λ c. search needs)
+    (λ c. search needs))

@@ -1,6 +1,5 @@
 -- One limit: its value, read from the numbers that encode it, and what it does to the sizes.
 use mathlib.Core.Path.{_≡_, refl, sym, ap, _∙_}
-use mathlib.Core.Bool.{Bool, true, false}
 use mathlib.Core.List.{List, [], _∷_}
 use Prim.Native.Nat.{ℕ, zero, suc, _+_, _*_, _/_, _-_, _≤_, _<_, min}
 use native.Mathlib.Omega.{arith}
@@ -11,7 +10,7 @@ use Rattle.counting.specs.Totals.{productOver}
 use Rattle.fixpoint.specs.Limits.{Limit, valueOf, lowered, loweredBy, round}
 use Rattle.lowering.specs.Sizes.{productOf, sumOf}
 use Rattle.lowering.specs.Laws.Lowered.{part-end}
-use Rattle.lowering.specs.Encoding.{exprOf, limitAt, Single, decodeFrom, decode}
+use Rattle.lowering.specs.Encoding.{exprOf, limitAt, decodeFrom, decode}
 use Rattle.lowering.specs.Sizes.{Small}
 use Rattle.lowering.proofs.Capped.{cut-both}
 
@@ -43,27 +42,18 @@ value-part old xs at h q ev =
 
 -- ---- a limit that is the size of one set
 
-pub single-not : (xs : List ℕ) (at : ℕ) → Single false xs at
-single-not xs at = record { kind = λ e. absurd (never e); count = λ e. absurd (never e); room = λ e. absurd (never e) }
-  where
-    never : false ≡ true → ⊥
-    never e = let z : _≡_ {A = ℕ} 0 1 = cc in omega arith
-
 product-one : (old : List ℕ) (s : ℕ) → productOf old (s ∷ []) ≡ getD old s 0
 unfolding productOver
 product-one old s = omega arith
 
-module _ (old xs : List ℕ) (at : ℕ) {b : Bool} (w : Single b xs at) (e : b ≡ true) where
-  pub single-room : at + 4 < length xs
-  single-room = w .room e
-
-  pub single-value : {v r : ℕ} → v ≡ getD old (getD xs (at + 4) 0) 0 → r ≡ min 4096 v → r ≡ min 4096 (valueOf old (limitAt xs at .most))
-  single-value {v} {r} ev er =
-      let s : ℕ = getD xs (at + 4) 0 in
-      let one : take (getD xs (at + 3) 0) (drop (at + 4) xs) ≡ s ∷ [] =
-      ap (λ (n : ℕ). take n (drop (at + 4) xs)) (w .count e) ∙ ap (take 1) (drop-cons xs (at + 4) 0 (w .room e)) in
-      is-product old (take (getD xs (at + 3) 0) (drop (at + 4) xs)) (getD xs at 0) (getD xs (at + 2) 0) (w .kind e)
-      (er ∙ ap (min 4096) (ev ∙ sym (product-one old s) ∙ ap (productOf old) (sym one)))
+pub single-value : (old xs : List ℕ) (at : ℕ) {v r : ℕ} → getD xs at 0 ≡ 0 → getD xs (at + 3) 0 ≡ 1 → at + 4 < length xs
+    → v ≡ getD old (getD xs (at + 4) 0) 0 → r ≡ min 4096 v → r ≡ min 4096 (valueOf old (limitAt xs at .most))
+single-value old xs at {v} {r} kind count room ev er =
+    let s : ℕ = getD xs (at + 4) 0 in
+    let one : take (getD xs (at + 3) 0) (drop (at + 4) xs) ≡ s ∷ [] =
+    ap (λ (n : ℕ). take n (drop (at + 4) xs)) count ∙ ap (take 1) (drop-cons xs (at + 4) 0 room) in
+    is-product old (take (getD xs (at + 3) 0) (drop (at + 4) xs)) (getD xs at 0) (getD xs (at + 2) 0) kind
+    (er ∙ ap (min 4096) (ev ∙ sym (product-one old s) ∙ ap (productOf old) (sym one)))
 
 module _ (old new : List ℕ) (l : Limit) {t : ℕ} (et : t ≡ l .target) where
   pub lower-here : {v : ℕ} → v ≡ min 4096 (valueOf old (l .most)) → Small new → v < getD new t 0 → set new t v ≡ lowered old l new

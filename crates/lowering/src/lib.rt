@@ -5,7 +5,7 @@ ghost use Prim.Native.Nat.{_+_, _≤_, _<_, _/_, min};
 ghost use lib.ListN.{length, getD};
 ghost use Rattle.fixpoint.specs.Limits.{valueOf, lowered, round};
 ghost use Rattle.lowering.specs.Sizes.{productOf, sumOf, Small};
-ghost use Rattle.lowering.specs.Encoding.{exprOf, limitAt, Single, decode};
+ghost use Rattle.lowering.specs.Encoding.{exprOf, limitAt, decode};
 
 // A cast of an element; callers learn the bound too.
 pub fn index(x: u32) -> usize
@@ -109,20 +109,6 @@ fn value_of(limits: &[u32], at: usize, old: &[u32]) -> u32
     value(limits[at], limits[at + 2], &limits[start..end], old)
 }
 
-// Whether the limit at `at` is the size of one set.
-fn is_single(limits: &[u32], at: usize) -> bool
-    requires { ⌜ at + 4 ≤ length (now limits) ⌝ }
-    ensures { λ r. ⌜ Single r (now (limits .entry)) at ⌝ }
-{
-    if limits[at] != 0 {
-        return false;
-    }
-    if limits[at + 3] != 1 {
-        return false;
-    }
-    at + 4 < limits.len()
-}
-
 // Most limits are the size of one set, which is read off at once.
 fn value_at(limits: &[u32], at: usize, old: &[u32]) -> u32
     requires { ⌜ at + 4 ≤ length (now limits) ⌝ }
@@ -131,10 +117,13 @@ fn value_at(limits: &[u32], at: usize, old: &[u32]) -> u32
     if limits[at] != 0 {
         return value_of(limits, at, old);
     }
-    if is_single(limits, at) {
-        return cut(size(old, limits[at + 4]));
+    if limits[at + 3] != 1 {
+        return value_of(limits, at, old);
     }
-    value_of(limits, at, old)
+    if limits.len() <= at + 4 {
+        return value_of(limits, at, old);
+    }
+    cut(size(old, limits[at + 4]))
 }
 
 // Puts the limit at `at` to use.

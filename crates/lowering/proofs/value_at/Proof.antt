@@ -1,6 +1,6 @@
 -- `lowering::value_at` meets its contract. A limit that is the size of one set, or any other.
 -- Assumes nothing.
-use Rattle.lowering.proofs.Step.{single-room, single-value}
+use Rattle.lowering.proofs.Step.{single-value}
 use borrow.Author.Needs.{needs}
 use Rattle.lowering.proofs.value_at.Statement.{statement}
 use Rattle.lowering.proofs.value_at.Tie as tie
@@ -13,12 +13,17 @@ value-at-spec =
     (λ c. search needs)
     (λ c κs. search needs)
     (λ c. search needs)
+    (λ c. search needs)
+    (λ c. search needs)
+    (λ c. search needs)
     (λ c κs. search needs)
     (λ c. search needs)
     (λ c. search needs)
-    (λ c. search (needs, single-room))
+    (λ c κs. search needs)
+    (λ c. search needs)
+    (λ c. search needs)
+    (λ c. search needs)
+    (λ c. search needs)
     (λ c κs. search needs)
     (λ c κs. search needs)
-    (λ c. search (needs, single-value))
-    (λ c κs. search needs)
-    (λ c. search needs))
+    (λ c. search (needs, single-value)))

@@ -1,5 +1,5 @@
 -- The parts of a predicate as lists of numbers, and how long these are.
-use Prim.Native.Nat.{ℕ, zero, suc, _+_, _*_, _-_, _≤_, _<_}
+use Prim.Native.Nat.{ℕ, zero, suc, _+_, _*_, _-_, min, _≤_, _<_}
 use native.Mathlib.Numerals.{add-one}
 use native.Mathlib.Nat.{add-zero}
 use native.Mathlib.Omega.{arith}
@@ -7,6 +7,7 @@ use mathlib.Core.Path.{_≡_, refl, sym, ap, ap₂, _∙_}
 use mathlib.Core.Bool.{Bool, true, false}
 use mathlib.Core.List.{List, [], _∷_, _++_, map, map-append, map-map, map-id, flatMap}
 use lib.Dec.{eqb}
+use borrow.Author.Tests.{eqb-true}
 use lib.ListN.{length, getD, drop, take, replicate, length-append, length-map, drop-of-length-le}
 use lib.Seq.{drop-cons, length-take-le}
 use Rattle.counting.specs.Lists.{upFrom}
@@ -112,6 +113,35 @@ select-few test i (r ∷ rs) = go (test r) (select-few test (suc i) rs)
     go true h = omega arith
     go false h = omega arith
 
+-- how many roles have a group's number from `a` on; each role has one number, so that the groups together have no more roles than there are
+unfoldable groupedFrom : ℕ → List Role → ℕ
+groupedFrom a [] = 0
+groupedFrom a (r ∷ rs) = min 1 (suc (r .group) - a) + groupedFrom a rs
+
+this-or-later : (a i : ℕ) (rs : List Role) → length (rolesInGroup a i rs) + groupedFrom (suc a) rs ≤ groupedFrom a rs
+unfolding select rolesInGroup groupedFrom
+this-or-later a i [] = omega arith
+this-or-later a i (r ∷ rs) = go (eqb (r .group) a) refl (this-or-later a (suc i) rs)
+  where
+    go : (b : Bool) → eqb (r .group) a ≡ b → length (rolesInGroup a (suc i) rs) + groupedFrom (suc a) rs ≤ groupedFrom a rs
+        → length {A = ℕ} (elim b as (λ _. List ℕ) [ true ↦ i ∷ rolesInGroup a (suc i) rs | false ↦ rolesInGroup a (suc i) rs ])
+        + (min 1 (suc (r .group) - suc a) + groupedFrom (suc a) rs) ≤ min 1 (suc (r .group) - a) + groupedFrom a rs
+    go true e h = let same : r .group ≡ a = eqb-true (r .group) a e in omega arith
+    go false e h = omega arith
+
+grouped-from-few : (a : ℕ) (rs : List Role) → groupedFrom a rs ≤ length rs
+unfolding groupedFrom
+grouped-from-few a [] = omega arith
+grouped-from-few a (r ∷ rs) = omega (arith, grouped-from-few a rs)
+
+grouped-at-most : (x : Placed) (a n : ℕ) → length (grouped x a n) ≤ groupedFrom a (x .predicate .roles)
+unfolding upFrom flatMap
+grouped-at-most x a zero = omega arith
+grouped-at-most x a (suc n) =
+    let here : length (groupRoles x a) + groupedFrom (suc a) (x .predicate .roles) ≤ groupedFrom a (x .predicate .roles) =
+    unfold groupRoles in this-or-later a (x .roles) (x .predicate .roles) in
+    omega (arith, length-append (groupRoles x a) (grouped x (suc a) n), here, grouped-at-most x (suc a) n)
+
 under-map : (f : ℕ → ℕ) (xs : List ℕ) → ((a : ℕ) → f a ≤ 6) → Under 6 (map f xs)
 under-map f [] h = under-nil 6
 under-map f (x ∷ xs) h = under-cons (h x) (under-map f xs h)
@@ -130,18 +160,14 @@ module _ (t : List ℕ) (x : Cursor) where
   group-few g f = omega
       (arith, select-few (λ (r : Role). eqb (r .group) g) (placedAt t x .roles) (placedAt t x .predicate .roles), role-count, f .roles)
 
-  grouped-few : (a n : ℕ) → Few t x → length (grouped (placedAt t x) a n) ≤ 6 * n
-  unfolding upFrom flatMap
-  grouped-few a zero f = omega arith
-  grouped-few a (suc n) f = omega
-      (arith, length-append (groupRoles (placedAt t x) a) (grouped (placedAt t x) (suc a) n), group-few a f, grouped-few (suc a) n f)
-
-  pub order-few : Few t x → length (order (placedAt t x)) ≤ 42
+  pub order-few : Few t x → length (order (placedAt t x)) ≤ 6
   order-few f =
-      let long : length (order (placedAt t x)) ≡ length (grouped (placedAt t x) 1 (groupCount (placedAt t x))) + length
-      (groupRoles (placedAt t x) 0) = ap length (order-parts (placedAt t x)) ∙ length-append
-      (grouped (placedAt t x) 1 (groupCount (placedAt t x))) (groupRoles (placedAt t x) 0) in
-      omega (arith, long, grouped-few 1 (groupCount (placedAt t x)) f, group-few 0 f, group-count, f .groups)
+      let px : Placed = placedAt t x in
+      let long : length (order px) ≡ length (grouped px 1 (groupCount px)) + length (groupRoles px 0) =
+      ap length (order-parts px) ∙ length-append (grouped px 1 (groupCount px)) (groupRoles px 0) in
+      let none : length (groupRoles px 0) + groupedFrom 1 (px .predicate .roles) ≤ groupedFrom 0 (px .predicate .roles) =
+      unfold groupRoles in this-or-later 0 (px .roles) (px .predicate .roles) in
+      omega (arith, long, none, grouped-at-most px 1 (groupCount px), grouped-from-few 0 (px .predicate .roles), role-count, f .roles)
 
   pub parts-few : Few t x → length (parts (placedAt t x)) ≤ 12
   parts-few f =
@@ -199,7 +225,7 @@ module _ (t c : List ℕ) (x : Cursor) (f : Few t x) {s s′ : List ℕ} {n : �
     unfolding owns
     part-sizes-is v = wrote-as v (ap (sizesOf c) (wrote-front w fits) ∙ map-map (size c) (λ (b : Part). b .own) (parts (placedAt t x)))
 
-  module _ (room : length s ≡ 42) (w : Wrote s 0 (order (placedAt t x)) s′ n) where
+  module _ (room : length s ≡ 6) (w : Wrote s 0 (order (placedAt t x)) s′ n) where
     roles-fit : length (order (placedAt t x)) ≤ length s
     roles-fit = omega (arith, order-few t x f, room)
 

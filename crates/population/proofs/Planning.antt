@@ -64,7 +64,7 @@ module _ {t c sizes : List ℕ} {x : Cursor} (o : Owned t c x sizes) where
   pub owned-wanted : {ks : List ℕ} → Few t x → Small c → Small ks → Wants sizes ks
   owned-wanted f h k = record { few = omega (arith, owned-few f); wanted = owned-small h; counted = k }
 
-module _ (c roles : List ℕ) {s s′ : List ℕ} {n : ℕ} (few : length roles ≤ 42) (room : length s ≡ 42) (w : Wrote s 0 (sizesOf c roles) s′ n) where
+module _ (c roles : List ℕ) {s s′ : List ℕ} {n : ℕ} (few : length roles ≤ 6) (room : length s ≡ 6) (w : Wrote s 0 (sizesOf c roles) s′ n) where
   sizes-fit : length (sizesOf c roles) ≤ length s
   sizes-fit = rw length-map (omega (arith, few, room))
 
@@ -90,13 +90,13 @@ counts-small w = w .counted
 -- ---- the order of the roles
 
 module _ (t : List ℕ) (x : Cursor) (f : Few t x) where
-  pub ordered : {s s′ : List ℕ} {n : ℕ} → length s ≡ 42 → Wrote s 0 (order (placedAt t x)) s′ n → Ordered t x (take n s′)
+  pub ordered : {s s′ : List ℕ} {n : ℕ} → length s ≡ 6 → Wrote s 0 (order (placedAt t x)) s′ n → Ordered t x (take n s′)
   ordered {s} room w =
       let fit : length (order (placedAt t x)) ≤ length s = omega (arith, order-few t x f, room) in
       record { are = wrote-front w fit }
 
   module _ {roles : List ℕ} (o : Ordered t x roles) where
-    pub ordered-few : length roles ≤ 42
+    pub ordered-few : length roles ≤ 6
     ordered-few = omega (arith, ap length (o .are), order-few t x f)
 
     pub ordered-listed : {types : List ℕ} → length types ≤ 96 → Listed types roles

@@ -66,7 +66,7 @@ position-small p (s ∷ ss) = go (eqb s p) (position-small p ss)
     go true h = omega arith
     go false h = omega arith
 
-module _ (t c types roles : List ℕ) (w : Walkable t) (h : Small c) (few : length types ≤ 96) (few′ : length roles ≤ 42) where
+module _ (t c types roles : List ℕ) (w : Walkable t) (h : Small c) (few : length types ≤ 96) (few′ : length roles ≤ 6) where
   pub columns-small : (p : ℕ) (rs : List Role) → Under 999999 (columnsFrom (diagramOf t) c types roles p rs)
   unfolding mapFrom flatten
   columns-small p [] = under-nil 999999
@@ -143,7 +143,7 @@ module _ {t c : List ℕ} {x : Cursor} (ready : Ready t c x) {s s′ : List ℕ}
     prepared p q = record { columned = p; stepped = q; ks-are = wrote-front w counts-fit }
 
 module _ {t c roles columns sizes os ks : List ℕ} {x : Cursor} (ready : Ready t c x) (p : Prepared t c x roles columns sizes os ks) where
-  pub prepared-few : length roles ≤ 42
+  pub prepared-few : length roles ≤ 6
   prepared-few = ordered-few t x (ready .few) (p .columned .ordered)
 
   pub prepared-wanted : Wants sizes ks
@@ -158,7 +158,7 @@ flat-rows f g [] h = refl
 flat-rows f g (i ∷ is) h = ap₂ {C = List ℕ} (λ a b. a ++ b) (h i) (flat-rows f g is h)
 
 module _ {t c : List ℕ} {x : Cursor} (ready : Ready t c x) {roles columns sizes os ks is is′ : List ℕ} {a : ℕ}
-    (p : Prepared t c x roles columns sizes os ks) (room : length is ≡ 126) (w : Wrote is 0 (stepsOfEach sizes ks (sizesOf c roles)) is′ a) where
+    (p : Prepared t c x roles columns sizes os ks) (room : length is ≡ 18) (w : Wrote is 0 (stepsOfEach sizes ks (sizesOf c roles)) is′ a) where
   abbrev px : Placed
   px = placedAt t x
 

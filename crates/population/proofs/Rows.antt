@@ -74,10 +74,10 @@ module _ {inner ks rows : List ℕ} (r : Room inner ks rows) where
   pub room-indices : Indices rows
   room-indices = record { at = λ k. omega (arith, r .indices k) }
 
-  pub room-roomy : {s : List ℕ} → length s ≡ 42 → Roomy inner ks rows s
+  pub room-roomy : {s : List ℕ} → length s ≡ 6 → Roomy inner ks rows s
   room-roomy room = record { few = omega (arith, r .few); counted = r .each-counted; there = r .there; room = omega (arith, r .enough, room) }
 
-  module _ {s s′ : List ℕ} {n : ℕ} (room : length s ≡ 42) (w : Stored s 0 (tuplesIn inner ks rows) s′)
+  module _ {s s′ : List ℕ} {n : ℕ} (room : length s ≡ 6) (w : Stored s 0 (tuplesIn inner ks rows) s′)
       (en : n ≡ length (tuplesIn inner ks rows)) where
     flat-front : take n s′ ≡ tuplesIn inner ks rows
     flat-front = rw en (stored-front w (omega (arith, r .enough, room)))

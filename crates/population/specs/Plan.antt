@@ -63,7 +63,7 @@ columnOf d c types roles p r =
 -- There are not too many of them
 pub record Listed (types roles : List ℕ) : Type 0 where
   pub few-types : length types ≤ 96
-  pub few-roles : length roles ≤ 42
+  pub few-roles : length roles ≤ 6
 
 -- The cell of a column in a row that is given by parts
 unfoldable pub cellOf : List ℕ → List ℕ → ℕ
@@ -90,7 +90,7 @@ pub record Room (inner ks rows : List ℕ) : Type 0 where
   pub there : 3 * length (tuplesIn inner ks rows) ≤ length inner
   pub counted : Small ks
   pub indices : (k : ℕ) → getD rows k 0 ≤ 8192
-  pub enough : length (tuplesIn inner ks rows) ≤ 42
+  pub enough : length (tuplesIn inner ks rows) ≤ 6
 
 -- What is prepared for a predicate of `count` roles: all of it is there and small
 pub record Planned (count : ℕ) (columns outer ks inner : List ℕ) : Type 0 where
@@ -100,7 +100,7 @@ pub record Planned (count : ℕ) (columns outer ks inner : List ℕ) : Type 0 wh
   pub few : length ks ≤ 12
   pub counted : Small ks
   pub small : Under 999999 columns
-  pub enough : (i : ℕ) → length (tuplesIn inner ks (tupleIn outer (length ks) i)) ≤ 42
+  pub enough : (i : ℕ) → length (tuplesIn inner ks (tupleIn outer (length ks) i)) ≤ 6
 
 -- At most 6 roles and 6 groups
 pub record Few (t : List ℕ) (x : Cursor) : Type 0 where

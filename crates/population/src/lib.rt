@@ -409,8 +409,8 @@ fn part_space() -> [u32; 12] {
     [0u32; 12]
 }
 
-fn role_space() -> [u32; 42] {
-    [0u32; 42]
+fn role_space() -> [u32; 6] {
+    [0u32; 6]
 }
 
 fn part_sizes(t: &[u32], c: &[u32], x: table::Cursor, out: &mut [u32]) -> usize
@@ -441,7 +441,7 @@ fn plan_rows(c: &[u32], own: u32, sizes: &[u32], out: &mut [u32]) -> usize
 // the roles of all parts, and `ks` has how many of them each part has.
 fn plan_parts(c: &[u32], roles: &[u32], wants: &[u32], ks: &[u32], out: &mut [u32]) -> usize
     requires { ⌜ Small (now c) ⌝ }
-    requires { ⌜ length (now roles) ≤ 42 ⌝ }
+    requires { ⌜ length (now roles) ≤ 6 ⌝ }
     requires { ⌜ Wants (now wants) (now ks) ⌝ }
     ensures { λ r. ⌜ Wrote (now (out .entry)) 0 (stepsOfEach (now (wants .entry)) (now (ks .entry)) (sizesOf (now (c .entry)) (now (roles .entry)))) (now (out .exit)) r ⌝ }
 {
@@ -557,7 +557,7 @@ fn row_of(
     requires { ⌜ Under 999999 (now columns) ⌝ }
     requires { ⌜ 4 * count ≤ length (now columns) ⌝ }
     requires { ⌜ Room (now inner) (now ks) (now rows) ⌝ }
-    requires { ⌜ length (now flat) ≡ 42 ⌝ }
+    requires { ⌜ length (now flat) ≡ 6 ⌝ }
     ensures { λ r. ⌜ Wrote (now (out .entry)) at (each (cellOf (tuplesIn (now (inner .entry)) (now (ks .entry)) (now (rows .entry)))) 4 count (now (columns .entry))) (now (out .exit)) r ⌝ }
 {
     let n = tuples::tuple_each(inner, ks, rows, flat);
@@ -580,7 +580,7 @@ fn row(
     requires { ⌜ Planned count (now columns) (now outer) (now ks) (now inner) ⌝ }
     requires { ⌜ i ≤ 4096 ⌝ }
     requires { ⌜ length (now rows) ≡ 12 ⌝ }
-    requires { ⌜ length (now flat) ≡ 42 ⌝ }
+    requires { ⌜ length (now flat) ≡ 6 ⌝ }
     ensures { λ r. ⌜ Wrote (now (out .entry)) at (rowBy (now (columns .entry)) count (now (outer .entry)) (now (ks .entry)) (now (inner .entry)) i) (now (out .exit)) r ⌝ }
 {
     let n = ks.len();
@@ -603,7 +603,7 @@ fn push_rows(
     requires { ⌜ Planned count (now columns) (now outer) (now ks) (now inner) ⌝ }
     requires { ⌜ size ≤ 4096 ⌝ }
     requires { ⌜ length (now rows) ≡ 12 ⌝ }
-    requires { ⌜ length (now flat) ≡ 42 ⌝ }
+    requires { ⌜ length (now flat) ≡ 6 ⌝ }
     ensures { λ r. ⌜ Wrote (now (out .entry)) at (flatMap (rowBy (now (columns .entry)) count (now (outer .entry)) (now (ks .entry)) (now (inner .entry))) (upFrom 0 size)) (now (out .exit)) r ⌝ }
 {
     let mut left = size;
@@ -627,8 +627,8 @@ fn row_step_space() -> [u32; 36] {
     [0u32; 36]
 }
 
-fn role_step_space() -> [u32; 126] {
-    [0u32; 126]
+fn role_step_space() -> [u32; 18] {
+    [0u32; 18]
 }
 
 fn type_space() -> [u32; 96] {

@@ -12,7 +12,7 @@ use Rattle.population.proofs.push_rows.Tie as tie
 
 abbrev Inv-loop : tie.InvT-loop
 Inv-loop columns count outer ks inner size rows₀ flat₀ out₀ at left₀ i₀ to₀ rows flat out left i to =
-    (i + left ≤ 4096) × (length rows ≡ 12) × (length flat ≡ 42) ×
+    (i + left ≤ 4096) × (length rows ≡ 12) × (length flat ≡ 6) ×
     Writing out₀ at (rowsFrom columns count outer ks inner 0 size) out to (rowsFrom columns count outer ks inner i left)
 
 abbrev μ-loop : tie.MeasureT-loop

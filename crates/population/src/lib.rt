@@ -530,6 +530,13 @@ fn store_cells(columns: &[u32], count: u32, flat: &[u32], out: &mut [u32], at: u
     to
 }
 
+// How much room there is from `at` on.
+fn room(length: usize, at: usize) -> usize
+    ensures { λ r. ⌜ r ≡ length - at ⌝ }
+{
+    if length <= at { 0 } else { length - at }
+}
+
 // The row, with one test of the room.
 fn push_row(columns: &[u32], count: u32, flat: &[u32], out: &mut [u32], at: usize) -> usize
     requires { ⌜ Under 999999 (now columns) ⌝ }
@@ -537,7 +544,7 @@ fn push_row(columns: &[u32], count: u32, flat: &[u32], out: &mut [u32], at: usiz
     requires { ⌜ Under 2000000 (now flat) ⌝ }
     ensures { λ r. ⌜ Wrote (now (out .entry)) at (each (cellOf (now (flat .entry))) 4 count (now (columns .entry))) (now (out .exit)) r ⌝ }
 {
-    if fitting(out.len(), at, count) < count {
+    if room(out.len(), at) < table::index(count) {
         return push_cells(columns, count, flat, out, at);
     }
     store_cells(columns, count, flat, out, at)

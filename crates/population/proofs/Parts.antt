@@ -191,10 +191,12 @@ module _ (t : List ℕ) (x : Cursor) where
       → Wrote o at (order (placedAt t x)) o₂ b
   order-is w v = wrote-as (wrote-then w v) (rw (← group-count) (sym (order-parts (placedAt t x))))
 
-  pub counts-is : {n : ℕ} {o o₁ o₂ : List ℕ} {at a b : ℕ} → n ≡ length (groupRoles (placedAt t x) 0)
+  pub counts-is : {n g k : ℕ} {o o₁ o₂ : List ℕ} {at a b : ℕ} → n ≡ length (parts (placedAt t x)) → g ≡ getD (drop (x .at) t) 3 0 → k ≡ n - g
       → Wrote o at (groupCounts (placedAt t x) (upFrom 1 (getD (drop (x .at) t) 3 0))) o₁ a
-      → Wrote o₁ a (replicate n 1) o₂ b → Wrote o at (counts (placedAt t x)) o₂ b
-  counts-is en w v = wrote-as (wrote-then w v) (rw (en, ← group-count) (sym (counts-parts (placedAt t x))))
+      → Wrote o₁ a (replicate k 1) o₂ b → Wrote o at (counts (placedAt t x)) o₂ b
+  counts-is {n} {g} {k} en eg ek w v =
+      let e : k ≡ length (groupRoles (placedAt t x) 0) = omega (arith, en, eg, ek, parts-length (placedAt t x), group-count) in
+      wrote-as (wrote-then w v) (rw (e, ← group-count) (sym (counts-parts (placedAt t x))))
 
   pub parts-is : {n : ℕ} {o o₁ o₂ : List ℕ} {at a b : ℕ} → n ≡ getD (drop (x .at) t) 3 0 → Wrote o at (upFrom (x .groups) n) o₁ a
       → Wrote o₁ a (groupRoles (placedAt t x) 0) o₂ b

@@ -32,7 +32,7 @@ use Rattle.population.specs.Plan.{Few, RoleTypes, Wants, Planned, Ready,
 use Rattle.population.proofs.Types.{first-small}
 use Rattle.population.proofs.Columns.{columnsFrom}
 use Rattle.population.proofs.Parts.{order-few, parts-few, role-count, group-count, counts-few, counted-small}
-use Rattle.population.proofs.Planning.{owned-wanted, ordered-few}
+use Rattle.population.proofs.Planning.{owned-few, owned-wanted, ordered-few}
 use Rattle.population.proofs.RowLaws.{inner, outer, flat-long, row-by, inner-long}
 
 -- ---- columns are small
@@ -122,6 +122,13 @@ module _ (types roles : List ℕ) {t c : List ℕ} {x : Cursor} (ready : Ready t
     typed = typed;
     are = wrote-front w columns-fit ∙ ap (λ (l : List ℕ). columnsFrom (diagramOf t) c types l (x .roles) (placedAt t x .predicate .roles)) (o .are);
   }
+
+module _ {t c sizes os : List ℕ} {x : Cursor} (p : Stepped t c x sizes os) where
+  pub stepped-parts : length sizes ≡ length (parts (placedAt t x))
+  stepped-parts = ap length (p .owned .are) ∙ owns-length c (placedAt t x)
+
+  pub stepped-few : Ready t c x → length sizes ≤ 12
+  stepped-few ready = owned-few (p .owned) (ready .few)
 
 module _ {t c : List ℕ} {x : Cursor} (ready : Ready t c x) {s s′ : List ℕ} {n : ℕ} where
   pub stepped : {sizes : List ℕ} → length s ≡ 36 → Owned t c x sizes → Wrote s 0 (steps (getD c (x .own) 0) sizes) s′ n → Stepped t c x sizes s′

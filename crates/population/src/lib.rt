@@ -370,14 +370,28 @@ fn push_group_counts(t: &[u32], x: table::Cursor, out: &mut [u32], at: usize) ->
     to
 }
 
-// How many roles each part has.
-fn push_counts(t: &[u32], x: table::Cursor, out: &mut [u32]) -> usize
+// How many of so many parts are ungrouped roles.
+fn ungrouped(n: usize, groups: u32) -> u32
+    requires { ⌜ n ≤ 12 ⌝ }
+    ensures { λ r. ⌜ r ≡ n - groups ⌝ }
+{
+    if n <= table::index(groups) {
+        return 0;
+    }
+    (n - table::index(groups)) as u32
+}
+
+// How many roles each of the n parts has.
+fn push_counts(t: &[u32], x: table::Cursor, n: usize, out: &mut [u32]) -> usize
     requires { ⌜ Walkable (now t) ⌝ }
     requires { ⌜ Reach x 1 ⌝ }
+    requires { ⌜ n ≤ 12 ⌝ }
+    requires { ⌜ n ≡ length (parts (placedAt (now t) x)) ⌝ }
     ensures { λ r. ⌜ Wrote (now (out .entry)) 0 (counts (placedAt (now (t .entry)) x)) (now (out .exit)) r ⌝ }
 {
     let a = push_group_counts(t, x, out, 0);
-    buffer::fill(out, a, selection::count_in_group(t, x, 0), 1)
+    let count = ungrouped(n, table::field(t, x.at, 3));
+    buffer::fill(out, a, count, 1)
 }
 
 // The parts' sets.
@@ -717,7 +731,7 @@ fn push_stepped(
     ensures { λ r. ⌜ Wrote (now (out .entry)) at (cellsOfPred (rows (diagramOf (now (t .entry))) (now (c .entry)) (placedAt (now (t .entry)) x))) (now (out .exit)) r ⌝ }
 {
     let mut ks = part_space();
-    let m = push_counts(t, x, &mut ks);
+    let m = push_counts(t, x, sizes.len(), &mut ks);
     push_prepared(t, c, x, roles, columns, sizes, outer, &ks[..m], out, at)
 }
 

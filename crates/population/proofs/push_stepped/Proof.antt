@@ -1,7 +1,7 @@
 -- `population::push_stepped` meets its contract. The counts stand at the front of the scratch.
 -- Assumes nothing.
 use Rattle.population.proofs.Parts.{front-count}
-use Rattle.population.proofs.Preds.{counts-within, prepared}
+use Rattle.population.proofs.Preds.{counts-within, prepared, stepped-parts, stepped-few}
 use borrow.Author.Needs.{needs}
 use Rattle.population.proofs.push_stepped.Statement.{statement}
 use Rattle.population.proofs.push_stepped.Tie as tie
@@ -12,7 +12,7 @@ push-stepped-spec =
     (tie.spec
     (λ c κs. search needs)
     (λ c. search needs)
-    (λ c κs. search needs)
+    (λ c κs. (search needs, (search needs, (search (needs, stepped-few), search (needs, stepped-parts)))))
     (λ c. search (needs, counts-within))
     (λ c. search (needs, front-count, counts-within))
     (λ c κs. (search needs, search (needs, prepared)))

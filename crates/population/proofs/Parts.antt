@@ -18,7 +18,7 @@ use Rattle.orm.specs.Form.{groupOf, roleOf}
 use Rattle.orm.specs.Sets.{Placed, Part, parts, groupPart, rolePart, groupSet, groupRoles, rolesInGroup, select}
 use Rattle.orm.specs.Populate.{size}
 use Rattle.buffer.specs.Written.{Wrote, Writing, Splits}
-use Rattle.buffer.specs.Laws.{wrote-then, wrote-as, wrote-front, wrote-within, writing-start}
+use Rattle.buffer.specs.Laws.{wrote-then, wrote-as, wrote-end, wrote-front, wrote-within, writing-start}
 use Rattle.table.specs.Laws.Walks.{each-length}
 use Rattle.table.specs.Cursors.{placedAt}
 use Rattle.table.specs.Valid.{Under}
@@ -198,13 +198,6 @@ module _ (t : List ℕ) (x : Cursor) where
       let e : k ≡ length (groupRoles (placedAt t x) 0) = omega (arith, en, eg, ek, parts-length (placedAt t x), group-count) in
       wrote-as (wrote-then w v) (rw (e, ← group-count) (sym (counts-parts (placedAt t x))))
 
-  pub parts-is : {n : ℕ} {o o₁ o₂ : List ℕ} {at a b : ℕ} → n ≡ getD (drop (x .at) t) 3 0 → Wrote o at (upFrom (x .groups) n) o₁ a
-      → Wrote o₁ a (groupRoles (placedAt t x) 0) o₂ b
-      → Wrote o at (map (λ (b : Part). b .own) (parts (placedAt t x))) o₂ b
-  unfolding placedAt
-  parts-is en w v = wrote-as (wrote-then w v)
-      (ap (λ (m : ℕ). upFrom (x .groups) m ++ groupRoles (placedAt t x) 0) (en ∙ sym group-count) ∙ sym (own-parts (placedAt t x)))
-
 -- ---- the sizes of some sets
 
 pub sizes-more : (c sets : List ℕ) (i : ℕ) {n : ℕ} → i < length sets → n ≡ getD c (getD sets i 0) 0
@@ -214,25 +207,58 @@ sizes-more c sets i h en = record { is = ap (sizesOf c) (drop-cons sets i 0 h) �
 pub sizes-none : (c sets : List ℕ) (i : ℕ) → length sets ≤ i → sizesOf c (drop i sets) ≡ []
 sizes-none c sets i h = ap (sizesOf c) (drop-of-length-le sets h)
 
--- those of the parts, and of their roles; the sets stand at the front of `s′`
-module _ (t c : List ℕ) (x : Cursor) (f : Few t x) {s s′ : List ℕ} {n : ℕ} where
-  module _ (room : length s ≡ 12) (w : Wrote s 0 (map (λ (b : Part). b .own) (parts (placedAt t x))) s′ n) where
-    fits : length (map (λ (b : Part). b .own) (parts (placedAt t x))) ≤ length s
-    fits = rw length-map (omega (arith, parts-few t x f, room))
+pub sizes-up-more : (c : List ℕ) (a n : ℕ) {k : ℕ} → 0 < n → k ≡ getD c a 0
+    → Splits (sizesOf c (upFrom a n)) (k ∷ []) (sizesOf c (upFrom (a + 1) (n - 1)))
+unfolding upFrom
+sizes-up-more c a zero h ek = absurd (omega arith)
+sizes-up-more c a (suc n) h ek = let e : suc n - 1 ≡ n = omega arith in record { is = rw (e, add-one, ek) }
 
-    pub parts-within : n ≤ length s′
-    parts-within = wrote-within w fits
+pub sizes-up-none : (c : List ℕ) (a n : ℕ) → n ≤ 0 → sizesOf c (upFrom a n) ≡ []
+unfolding upFrom
+sizes-up-none c a zero h = refl
+sizes-up-none c a (suc n) h = absurd (omega arith)
 
-    pub part-sizes-is : {o o′ : List ℕ} {at to : ℕ} → Wrote o at (sizesOf c (take n s′)) o′ to → Wrote o at (owns c (placedAt t x)) o′ to
-    unfolding owns
-    part-sizes-is v = wrote-as v (ap (sizesOf c) (wrote-front w fits) ∙ map-map (size c) (λ (b : Part). b .own) (parts (placedAt t x)))
+-- those of the parts
+module _ (t c : List ℕ) (x : Cursor) where
+  owns-parts : {n : ℕ} → n ≡ getD (drop (x .at) t) 3 0
+      → sizesOf c (upFrom (x .groups) n) ++ sizesOf c (groupRoles (placedAt t x) 0) ≡ owns c (placedAt t x)
+  unfolding owns placedAt
+  owns-parts {n} en =
+      sym (map-append (size c) (upFrom (x .groups) n) (groupRoles (placedAt t x) 0))
+      ∙ ap (sizesOf c) (ap (λ (m : ℕ). upFrom (x .groups) m ++ groupRoles (placedAt t x) 0) (en ∙ sym (group-count t x))
+      ∙ sym (own-parts (placedAt t x)))
+      ∙ map-map (size c) (λ (b : Part). b .own) (parts (placedAt t x))
 
-  module _ (room : length s ≡ 6) (w : Wrote s 0 (order (placedAt t x)) s′ n) where
-    roles-fit : length (order (placedAt t x)) ≤ length s
-    roles-fit = omega (arith, order-few t x f, room)
+  pub part-sizes-is : {n : ℕ} {alone o o₁ o₂ : List ℕ} {at a b : ℕ} → n ≡ getD (drop (x .at) t) 3 0 → alone ≡ groupRoles (placedAt t x) 0
+      → Wrote o at (sizesOf c (upFrom (x .groups) n)) o₁ a → Wrote o₁ a (sizesOf c alone) o₂ b → Wrote o at (owns c (placedAt t x)) o₂ b
+  part-sizes-is {n} en eo w v =
+      wrote-as (wrote-then w v) (ap (λ (l : List ℕ). sizesOf c (upFrom (x .groups) n) ++ sizesOf c l) eo ∙ owns-parts en)
 
-    pub roles-within : n ≤ length s′
-    roles-within = wrote-within w roles-fit
+-- the roles of the parts stand at the front of `s₂`
+module _ (t : List ℕ) (x : Cursor) (f : Few t x) {s s₁ s₂ : List ℕ} {a n : ℕ} (room : length s ≡ 6)
+    (w : Wrote s 0 (grouped (placedAt t x) 1 (getD (drop (x .at) t) 3 0)) s₁ a) (v : Wrote s₁ a (groupRoles (placedAt t x) 0) s₂ n) where
+  roles-fit : length (order (placedAt t x)) ≤ length s
+  roles-fit = omega (arith, order-few t x f, room)
+
+  pub roles-within : n ≤ length s₂
+  roles-within = wrote-within (order-is t x w v) roles-fit
+
+  pub gathered : take n s₂ ≡ order (placedAt t x)
+  gathered = wrote-front (order-is t x w v) roles-fit
+
+  pub gathered-parts : take n s₂ ≡ grouped (placedAt t x) 1 (getD (drop (x .at) t) 3 0) ++ groupRoles (placedAt t x) 0
+  gathered-parts = gathered ∙ order-parts (placedAt t x)
+      ∙ ap (λ (m : ℕ). grouped (placedAt t x) 1 m ++ groupRoles (placedAt t x) 0) (group-count t x)
+
+  pub gathered-end : a ≡ length (grouped (placedAt t x) 1 (getD (drop (x .at) t) 3 0))
+  gathered-end = wrote-end w
+      (omega (
+        arith,
+        roles-fit,
+        ap length gathered,
+        ap length gathered-parts,
+        length-append (grouped (placedAt t x) 1 (getD (drop (x .at) t) 3 0)) (groupRoles (placedAt t x) 0),
+      ))
 
 pub front-count : (l : List ℕ) (m : ℕ) → m ≤ length l → m ≡ length (take m l)
 front-count l m h = sym (length-take-le m l h)

@@ -2,9 +2,10 @@
 use Prim.Native.Nat.{ℕ, zero, suc, _+_, _*_, _-_, _≤_, _<_}
 use native.Mathlib.Omega.{arith}
 use mathlib.Core.Path.{_≡_, refl, sym, ap, ap₂, _∙_}
-use mathlib.Core.List.{List, [], _∷_, map, append-nil}
-use lib.ListN.{length, getD, drop, take, length-map}
-use Rattle.orm.specs.Sets.{Part, parts}
+use mathlib.Core.List.{List, [], _∷_, _++_, map, append-nil}
+use lib.ListN.{length, getD, drop, take, length-append, length-drop, length-map}
+use lib.Seq.{drop-append-seam, take-all}
+use Rattle.orm.specs.Sets.{Part, parts, groupRoles}
 use Rattle.orm.specs.Populate.{size}
 use Rattle.buffer.specs.Written.{Wrote}
 use Rattle.buffer.specs.Laws.{wrote-as, wrote-front, wrote-within}
@@ -13,8 +14,8 @@ use Rattle.table.specs.declared.Cursor.{Cursor}
 use Rattle.tuples.specs.Steps.{padded, steps, Small, Bounded}
 use Rattle.tuples.specs.StepsLaws.{padded-front}
 use Rattle.tuples.specs.Nested.{stepsOfEach}
-use Rattle.population.specs.Plan.{order, counts, owns, sizesOf, Wants, Listed, Few, Ordered, Owned}
-use Rattle.population.proofs.Parts.{order-few, parts-few}
+use Rattle.population.specs.Plan.{order, counts, owns, sizesOf, Wants, Listed, Few, Ordered, Opened, Owned}
+use Rattle.population.proofs.Parts.{grouped, order-few, parts-few, gathered, gathered-parts, gathered-end}
 
 -- sizes of sets are small
 map-small : {A : Type 0} (f : A → ℕ) (xs : List A) → ((a : A) → f a ≤ 4096) → (k : ℕ) → getD (map f xs) k 0 ≤ 4096
@@ -89,15 +90,39 @@ counts-small w = w .counted
 
 -- ---- the order of the roles
 
-module _ (t : List ℕ) (x : Cursor) (f : Few t x) where
-  pub ordered : {s s′ : List ℕ} {n : ℕ} → length s ≡ 6 → Wrote s 0 (order (placedAt t x)) s′ n → Ordered t x (take n s′)
-  ordered {s} room w =
-      let fit : length (order (placedAt t x)) ≤ length s = omega (arith, order-few t x f, room) in
-      record { are = wrote-front w fit }
+module _ (t : List ℕ) (x : Cursor) (f : Few t x) {s s₁ s₂ : List ℕ} {a n : ℕ} (room : length s ≡ 6)
+    (w : Wrote s 0 (grouped (placedAt t x) 1 (getD (drop (x .at) t) 3 0)) s₁ a) (v : Wrote s₁ a (groupRoles (placedAt t x) 0) s₂ n) where
+  pub ordered : Ordered t x (take n s₂)
+  ordered = record { are = gathered t x f room w v }
 
+  pub opened : Opened t x a (take n s₂)
+  opened =
+      let whole : take n s₂ ≡ grouped (placedAt t x) 1 (getD (drop (x .at) t) 3 0) ++ groupRoles (placedAt t x) 0 =
+      gathered-parts t x f room w v in
+      record {
+        within = omega (
+          arith,
+          gathered-end t x f room w v,
+          ap length whole,
+          length-append (grouped (placedAt t x) 1 (getD (drop (x .at) t) 3 0)) (groupRoles (placedAt t x) 0),
+        );
+        are = rw (whole, gathered-end t x f room w v)
+            (drop-append-seam (grouped (placedAt t x) 1 (getD (drop (x .at) t) 3 0)) (groupRoles (placedAt t x) 0));
+      }
+
+module _ (t : List ℕ) (x : Cursor) (f : Few t x) where
   module _ {roles : List ℕ} (o : Ordered t x roles) where
     pub ordered-few : length roles ≤ 6
     ordered-few = omega (arith, ap length (o .are), order-few t x f)
 
     pub ordered-listed : {types : List ℕ} → length types ≤ 96 → Listed types roles
     ordered-listed h = record { few-types = h; few-roles = ordered-few }
+
+module _ {t roles : List ℕ} {x : Cursor} {a : ℕ} (o : Opened t x a roles) where
+  pub opened-within : a ≤ length roles
+  opened-within = o .within
+
+  pub opened-are : take (length roles - a) (drop a roles) ≡ groupRoles (placedAt t x) 0
+  opened-are =
+      let all : length (drop a roles) ≤ length roles - a = omega (arith, length-drop a roles) in
+      take-all (length roles - a) (drop a roles) all ∙ o .are

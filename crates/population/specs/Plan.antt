@@ -125,6 +125,11 @@ pub record Ready (t c : List ℕ) (x : Cursor) : Type 0 where
 pub record Ordered (t : List ℕ) (x : Cursor) (roles : List ℕ) : Type 0 where
   pub are : roles ≡ order (placedAt t x)
 
+-- Those in no group stand from `a` on
+pub record Opened (t : List ℕ) (x : Cursor) (a : ℕ) (roles : List ℕ) : Type 0 where
+  pub within : a ≤ length roles
+  pub are : drop a roles ≡ groupRoles (placedAt t x) 0
+
 -- Its columns
 pub record Columned (t c : List ℕ) (x : Cursor) (roles columns : List ℕ) : Type 0 where
   pub ordered : Ordered t x roles

@@ -22,7 +22,7 @@ ghost use Rattle.table.specs.Positions.{each};
 ghost use Rattle.table.specs.Valid.{Under, Valid};
 ghost use Rattle.tuples.specs.Nested.{tuplesIn, Indices};
 ghost use Rattle.population.specs.Plan.{order, counts, groupCounts, owns, sizesOf, position, played, share, columnOf, cellOf, rowBy};
-ghost use Rattle.population.specs.Plan.{Listed, Few, RoleTypes, Wants, Room, Planned, Ready, Ordered, Columned, Owned, Stepped, Prepared, Complete};
+ghost use Rattle.population.specs.Plan.{Listed, Few, RoleTypes, Wants, Room, Planned, Ready, Ordered, Opened, Columned, Owned, Stepped, Prepared, Complete};
 
 // ---- types
 
@@ -344,16 +344,6 @@ fn push_grouped(t: &[u32], x: table::Cursor, out: &mut [u32], at: usize) -> usiz
     to
 }
 
-// The roles of all parts, part by part.
-fn push_order(t: &[u32], x: table::Cursor, out: &mut [u32]) -> usize
-    requires { ⌜ Walkable (now t) ⌝ }
-    requires { ⌜ Reach x 1 ⌝ }
-    ensures { λ r. ⌜ Wrote (now (out .entry)) 0 (order (placedAt (now (t .entry)) x)) (now (out .exit)) r ⌝ }
-{
-    let a = push_grouped(t, x, out, 0);
-    selection::push_in_group(t, x, 0, out, a)
-}
-
 fn push_group_counts(t: &[u32], x: table::Cursor, out: &mut [u32], at: usize) -> usize
     requires { ⌜ Walkable (now t) ⌝ }
     requires { ⌜ Reach x 1 ⌝ }
@@ -394,26 +384,33 @@ fn push_counts(t: &[u32], x: table::Cursor, n: usize, out: &mut [u32]) -> usize
     buffer::fill(out, a, count, 1)
 }
 
-// The parts' sets.
-fn push_parts(t: &[u32], x: table::Cursor, out: &mut [u32]) -> usize
-    requires { ⌜ Walkable (now t) ⌝ }
-    requires { ⌜ Reach x 1 ⌝ }
-    ensures { λ r. ⌜ Wrote (now (out .entry)) 0 (map (λ (b : Part). b .own) (parts (placedAt (now (t .entry)) x))) (now (out .exit)) r ⌝ }
-{
-    let a = selection::push_up(out, 0, x.groups, table::field(t, x.at, 3));
-    selection::push_in_group(t, x, 0, out, a)
-}
-
 // The sizes of some sets.
-fn push_sizes(c: &[u32], sets: &[u32], out: &mut [u32]) -> usize
+fn push_sizes(c: &[u32], sets: &[u32], out: &mut [u32], at: usize) -> usize
     requires { ⌜ Small (now c) ⌝ }
-    ensures { λ r. ⌜ Wrote (now (out .entry)) 0 (sizesOf (now (c .entry)) (now (sets .entry))) (now (out .exit)) r ⌝ }
+    ensures { λ r. ⌜ Wrote (now (out .entry)) at (sizesOf (now (c .entry)) (now (sets .entry))) (now (out .exit)) r ⌝ }
 {
     let mut i = 0;
-    let mut to = 0;
+    let mut to = at;
     while i < sets.len() {
         to = buffer::push(out, to, size(c, sets[i]));
         i += 1;
+    }
+    to
+}
+
+// The sizes of `count` consecutive sets.
+fn push_sizes_up(c: &[u32], first: u32, count: u32, out: &mut [u32]) -> usize
+    requires { ⌜ Small (now c) ⌝ }
+    requires { ⌜ first + count ≤ 300000000 ⌝ }
+    ensures { λ r. ⌜ Wrote (now (out .entry)) 0 (sizesOf (now (c .entry)) (upFrom first count)) (now (out .exit)) r ⌝ }
+{
+    let mut left = count;
+    let mut set = first;
+    let mut to = 0;
+    while 0 < left {
+        to = buffer::push(out, to, size(c, set));
+        set += 1;
+        left -= 1;
     }
     to
 }
@@ -427,16 +424,16 @@ fn role_space() -> [u32; 6] {
     [0u32; 6]
 }
 
-fn part_sizes(t: &[u32], c: &[u32], x: table::Cursor, out: &mut [u32]) -> usize
+// The sizes of the parts; `alone` has the ungrouped roles.
+fn part_sizes(t: &[u32], c: &[u32], x: table::Cursor, alone: &[u32], out: &mut [u32]) -> usize
     requires { ⌜ Walkable (now t) ⌝ }
     requires { ⌜ Small (now c) ⌝ }
     requires { ⌜ Reach x 1 ⌝ }
-    requires { ⌜ Few (now t) x ⌝ }
+    requires { ⌜ now alone ≡ groupRoles (placedAt (now t) x) 0 ⌝ }
     ensures { λ r. ⌜ Wrote (now (out .entry)) 0 (owns (now (c .entry)) (placedAt (now (t .entry)) x)) (now (out .exit)) r ⌝ }
 {
-    let mut sets = part_space();
-    let n = push_parts(t, x, &mut sets);
-    push_sizes(c, &sets[..n], out)
+    let a = push_sizes_up(c, x.groups, table::field(t, x.at, 3), out);
+    push_sizes(c, alone, out, a)
 }
 
 // ---- what is prepared for a predicate
@@ -460,7 +457,7 @@ fn plan_parts(c: &[u32], roles: &[u32], wants: &[u32], ks: &[u32], out: &mut [u3
     ensures { λ r. ⌜ Wrote (now (out .entry)) 0 (stepsOfEach (now (wants .entry)) (now (ks .entry)) (sizesOf (now (c .entry)) (now (roles .entry)))) (now (out .exit)) r ⌝ }
 {
     let mut sizes = role_space();
-    let n = push_sizes(c, roles, &mut sizes);
+    let n = push_sizes(c, roles, &mut sizes, 0);
     tuples::prepare_each(wants, ks, &sizes[..n], out)
 }
 
@@ -756,22 +753,24 @@ fn push_sized(
     push_stepped(t, c, x, roles, columns, sizes, &outer, out, at)
 }
 
-// The same, with the sizes of the parts found here.
+// The same, with the sizes of the parts found here; the ungrouped roles stand from `a` on in `roles`.
 fn push_columned(
     t: &[u32],
     c: &[u32],
     x: table::Cursor,
     roles: &[u32],
+    a: usize,
     columns: &[u32],
     out: &mut [u32],
     at: usize,
 ) -> usize
     requires { ⌜ Ready (now t) (now c) x ⌝ }
     requires { ⌜ Columned (now t) (now c) x (now roles) (now columns) ⌝ }
+    requires { ⌜ Opened (now t) x a (now roles) ⌝ }
     ensures { λ r. ⌜ Wrote (now (out .entry)) at (cellsOfPred (rows (diagramOf (now (t .entry))) (now (c .entry)) (placedAt (now (t .entry)) x))) (now (out .exit)) r ⌝ }
 {
     let mut sizes = part_space();
-    let n = part_sizes(t, c, x, &mut sizes);
+    let n = part_sizes(t, c, x, &roles[a..], &mut sizes);
     push_sized(t, c, x, roles, columns, &sizes[..n], out, at)
 }
 
@@ -782,17 +781,39 @@ fn push_ordered(
     types: &[u32],
     x: table::Cursor,
     roles: &[u32],
+    a: usize,
     out: &mut [u32],
     at: usize,
 ) -> usize
     requires { ⌜ Ready (now t) (now c) x ⌝ }
     requires { ⌜ RoleTypes (now t) (now types) ⌝ }
     requires { ⌜ Ordered (now t) x (now roles) ⌝ }
+    requires { ⌜ Opened (now t) x a (now roles) ⌝ }
     ensures { λ r. ⌜ Wrote (now (out .entry)) at (cellsOfPred (rows (diagramOf (now (t .entry))) (now (c .entry)) (placedAt (now (t .entry)) x))) (now (out .exit)) r ⌝ }
 {
     let mut columns = column_space();
     let n = push_columns(t, c, types, roles, x, &mut columns);
-    push_columned(t, c, x, roles, &columns[..n], out, at)
+    push_columned(t, c, x, roles, a, &columns[..n], out, at)
+}
+
+// The same, with the roles of the parts found here, part by part; `roles` is scratch.
+fn push_gathered(
+    t: &[u32],
+    c: &[u32],
+    types: &[u32],
+    x: table::Cursor,
+    roles: &mut [u32],
+    out: &mut [u32],
+    at: usize,
+) -> usize
+    requires { ⌜ Ready (now t) (now c) x ⌝ }
+    requires { ⌜ RoleTypes (now t) (now types) ⌝ }
+    requires { ⌜ length (now roles) ≡ 6 ⌝ }
+    ensures { λ r. ⌜ Wrote (now (out .entry)) at (cellsOfPred (rows (diagramOf (now (t .entry))) (now (c .entry)) (placedAt (now (t .entry)) x))) (now (out .exit)) r ⌝ }
+{
+    let a = push_grouped(t, x, roles, 0);
+    let n = selection::push_in_group(t, x, 0, roles, a);
+    push_ordered(t, c, types, x, &roles[..n], a, out, at)
 }
 
 // The same from the table, the sizes and the types of all roles.
@@ -809,8 +830,7 @@ fn push_pred(
     ensures { λ r. ⌜ Wrote (now (out .entry)) at (cellsOfPred (rows (diagramOf (now (t .entry))) (now (c .entry)) (placedAt (now (t .entry)) x))) (now (out .exit)) r ⌝ }
 {
     let mut roles = role_space();
-    let n = push_order(t, x, &mut roles);
-    push_ordered(t, c, types, x, &roles[..n], out, at)
+    push_gathered(t, c, types, x, &mut roles, out, at)
 }
 
 fn push_preds(t: &[u32], c: &[u32], types: &[u32], out: &mut [u32], at: usize) -> usize

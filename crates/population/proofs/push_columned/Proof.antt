@@ -1,7 +1,7 @@
 -- `population::push_columned` meets its contract. The sizes of the parts stand at the front of the scratch.
 -- Assumes nothing.
 use Rattle.population.proofs.Parts.{front-count}
-use Rattle.population.proofs.Planning.{owns-within, owned}
+use Rattle.population.proofs.Planning.{owns-within, owned, opened-within, opened-are}
 use borrow.Author.Needs.{needs}
 use Rattle.population.proofs.push_columned.Statement.{statement}
 use Rattle.population.proofs.push_columned.Tie as tie
@@ -11,8 +11,12 @@ push-columned-spec =
     tie.close
     (tie.spec
     (λ c κs. search needs)
+    (λ c. search (needs, opened-within))
+    (λ c. search (needs, opened-within))
+    (λ c. search (needs, opened-within))
     (λ c. search needs)
-    (λ c κs. search needs)
+    (λ c. search (needs, opened-within))
+    (λ c κs. (search needs, (search needs, (search needs, search (needs, opened-are)))))
     (λ c. search (needs, owns-within))
     (λ c. search (needs, front-count, owns-within))
     (λ c κs. (search needs, (search needs, search (needs, owned))))

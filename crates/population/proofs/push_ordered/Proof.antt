@@ -16,6 +16,6 @@ push-ordered-spec =
     (λ c κs. (search needs, (search needs, (search (needs, ordered-listed, types-few), search needs))))
     (λ c. search (needs, columns-within))
     (λ c. search (needs, front-count, columns-within))
-    (λ c κs. (search needs, search (needs, columned)))
+    (λ c κs. (search needs, (search (needs, columned), search needs)))
     (λ c. search needs)
     (λ c. search needs))

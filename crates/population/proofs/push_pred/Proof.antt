@@ -1,7 +1,5 @@
--- `population::push_pred` meets its contract. The roles of the parts stand at the front of the scratch.
+-- `population::push_pred` meets its contract. The scratch is lent.
 -- Assumes nothing.
-use Rattle.population.proofs.Parts.{front-count, roles-within}
-use Rattle.population.proofs.Planning.{ordered}
 use borrow.Author.Needs.{needs}
 use Rattle.population.proofs.push_pred.Statement.{statement}
 use Rattle.population.proofs.push_pred.Tie as tie
@@ -13,8 +11,5 @@ push-pred-spec =
     (λ c κs. search needs)
     (λ c. search needs)
     (λ c κs. search needs)
-    (λ c. search (needs, roles-within))
-    (λ c. search (needs, front-count, roles-within))
-    (λ c κs. (search needs, (search needs, search (needs, ordered))))
     (λ c. search needs)
     (λ c. search needs))

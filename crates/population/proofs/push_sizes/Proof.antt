@@ -11,10 +11,10 @@ use Rattle.population.proofs.push_sizes.Statement.{statement}
 use Rattle.population.proofs.push_sizes.Tie as tie
 
 abbrev Inv-loop : tie.InvT-loop
-Inv-loop c sets out₀ i₀ to₀ out i to = (i ≤ length sets) × Writing out₀ 0 (sizesOf c sets) out to (sizesOf c (drop i sets))
+Inv-loop c sets out₀ at i₀ to₀ out i to = (i ≤ length sets) × Writing out₀ at (sizesOf c sets) out to (sizesOf c (drop i sets))
 
 abbrev μ-loop : tie.MeasureT-loop
-μ-loop c sets out₀ i₀ to₀ out i to = length sets - i
+μ-loop c sets out₀ at i₀ to₀ out i to = length sets - i
 
 pub push-sizes-spec : {M : Type 1} → statement M
 push-sizes-spec =

@@ -1,13 +1,13 @@
 -- The check of a table: what the reader says of it, and what a valid one leads to.
-use Prim.Native.Nat.{ℕ, suc, _≤_, _<_}
+use Prim.Native.Nat.{ℕ, suc, _+_, _≤_, _<_}
 use native.Mathlib.Omega.{arith}
 use mathlib.Core.Path.{_≡_, refl, sym, ap, _∙_}
 use mathlib.Core.List.{List}
 use lib.ListN.{length, take, length-map}
 use lib.Seq.{length-take-le}
-use Rattle.orm.specs.Diagram.{Role, Diagram, allRoles}
+use Rattle.orm.specs.Diagram.{Role, Diagram, Totals, totals, allRoles, allGroups}
 use Rattle.orm.specs.Text.{tableLine}
-use Rattle.orm.specs.Sets.{lower, upper, limits, verdict}
+use Rattle.orm.specs.Sets.{firstPred, firstRole, lower, upper, limits, verdict}
 use Rattle.orm.specs.Outcome.{Outcome, refused, accepted, _>>=_, fitted, bufferAfter, Sized, written, handedBack}
 use Rattle.orm.specs.Calls.{diagramIn, sizesOf, settledInto, checkCall}
 use Rattle.fixpoint.specs.Limits.{Verdict, unsatisfiable, fixpoint, run}
@@ -22,12 +22,11 @@ use Rattle.buffer.specs.Written.{Wrote}
 use Rattle.buffer.specs.Laws.{wrote-front, wrote-within, wrote-long, wrote-fit}
 use Rattle.table.specs.Positions.{diagramOf}
 use Rattle.table.specs.Valid.{Valid}
-use Rattle.table.specs.Laws.Valid.{accepted-valid}
+use Rattle.table.specs.Laws.Valid.{accepted-valid, valid-walkable}
 use Rattle.lowering.specs.Laws.Decoding.{decode-encode}
-use Rattle.selection.specs.Selected.{typesOf}
-use Rattle.limits.specs.Single.{Types}
-use Rattle.limits.specs.Laws.Room.{start-bounds, as-many, limits-fit, lower-fits}
-use Rattle.bounds.specs.Answer.{checkOf, ended, Answered, Limits, Lowers, FewLowers}
+use Rattle.selection.specs.Selected.{typesOf, Types}
+use Rattle.limits.specs.Laws.Room.{lower-length, start-bounds, as-many, limits-fit, lower-fits}
+use Rattle.bounds.specs.Answer.{checkOf, ended, Answered, Known, Limits, Lowers, FewLowers, Few}
 use Rattle.bounds.specs.declared.CheckAnswer.{CheckAnswer}
 use Rattle.bounds.specs.declared.CheckAnswer.the-variants.{Refused}
 
@@ -54,16 +53,44 @@ module _ (t b : List ℕ) {r : FormAnswer} {f : Fault} {line : ℕ} (p : r ≡ f
   unfolding written bufferAfter
   table-kept = ap (λ (o : Outcome Sized). bufferAfter (written o) b) (sym call-refused)
 
-pub table-valid : (t : List ℕ) {r : FormAnswer} {a b c d : ℕ} → r ≡ forms.Accepted a b c d → formOf r ≡ totalled (diagramIn tableLine t)
-    → Valid t
-table-valid t {r} {a} {b} {c} {d} p e = go (diagramIn tableLine t) refl e
-  where
-    go : (o : Outcome Diagram) → diagramIn tableLine t ≡ o → formOf r ≡ totalled o → Valid t
-    go (refused n place round) q h =
-        let s : formOf r ≡ accepted (record { types = a; preds = b; roles = c; groups = d }) = ap formOf p in
-        let z : _≡_ {A = ℕ} 0 1 = cc in
-        absurd (omega arith)
-    go (accepted x) q h = accepted-valid t x q
+module _ (t : List ℕ) {r : FormAnswer} {a b c d : ℕ} (p : r ≡ forms.Accepted a b c d) (e : formOf r ≡ totalled (diagramIn tableLine t)) where
+  table-known : Valid t × totals (diagramOf t) ≡ record { types = a; preds = b; roles = c; groups = d }
+  table-known = go (diagramIn tableLine t) refl e
+    where
+      go : (o : Outcome Diagram) → diagramIn tableLine t ≡ o → formOf r ≡ totalled o
+          → Valid t × totals (diagramOf t) ≡ record { types = a; preds = b; roles = c; groups = d }
+      go (refused n place round) q h =
+          let s : formOf r ≡ accepted (record { types = a; preds = b; roles = c; groups = d }) = ap formOf p in
+          let z : _≡_ {A = ℕ} 0 1 = cc in
+          absurd (omega arith)
+      go (accepted x) q h =
+          let s : formOf r ≡ accepted (record { types = a; preds = b; roles = c; groups = d }) = ap formOf p in
+          let v : Valid t = accepted-valid t x q in
+          let u : diagramIn tableLine t ≡ accepted (diagramOf t) = v .reads in
+          (v, cc)
+
+  table-roles : c ≡ length (allRoles (diagramOf t))
+  unfolding totals
+  table-roles = ap (λ (x : Totals). x .roles) (sym (table-known .1))
+
+  table-groups : d ≡ length (allGroups (diagramOf t))
+  unfolding totals
+  table-groups = ap (λ (x : Totals). x .groups) (sym (table-known .1))
+
+  pub roles-narrow : c ≤ 96
+  roles-narrow = omega (arith, table-roles, table-known .0 .formed .roleCount)
+
+  pub groups-narrow : d ≤ 96
+  groups-narrow = omega (arith, table-groups, table-known .0 .formed .groupCount)
+
+  pub table-counted : {roles groups : ℕ} → roles ≡ c → groups ≡ d → Known t roles groups
+  table-counted er eg = record {
+    valid = table-known .0;
+    walkable = valid-walkable (table-known .0);
+    counted = record { roles-are = er ∙ table-roles; groups-are = eg ∙ table-groups };
+    few-roles = omega (arith, er, roles-narrow);
+    few-groups = omega (arith, eg, groups-narrow);
+  }
 
 -- ---- a valid table
 
@@ -91,7 +118,10 @@ settled-is d space = go (verdict d)
     go (unsatisfiable s n) = refl
     go (fixpoint n c) = refl
 
-module _ {t : List ℕ} (v : Valid t) where
+module _ {t : List ℕ} {roles groups : ℕ} (known : Known t roles groups) where
+  v : Valid t
+  v = known .valid
+
   check-is : (space : ℕ) → checkCall t space ≡ ended (verdict (diagramOf t)) space
   unfolding checkCall
   check-is space =
@@ -168,12 +198,48 @@ module _ (t : List ℕ) {l l′ : List ℕ} {m : ℕ} where
     pub few-limits-whole : Limits t (take m l′)
     few-limits-whole = record { are = part-whole w (omega arith) }
 
-  module _ (w : Wrote l 0 (lower (diagramOf t)) l′ m) (few : m < 32) (long : length l ≡ 32) where
-    pub few-lower-within : m ≤ length l′
-    few-lower-within = part-within w (omega arith)
+-- ---- few sets
 
-    pub few-lower-whole : FewLowers t (take m l′)
-    few-lower-whole = record { are = part-whole w (omega arith); few = omega (arith, length-take-le m l′ few-lower-within) }
+module _ {t : List ℕ} {roles groups : ℕ} (known : Known t roles groups) where
+  all-sets : length (lower (diagramOf t)) ≡ firstRole (diagramOf t) + roles + groups
+  unfolding firstRole firstPred
+  all-sets =
+      lower-length (diagramOf t) (known .valid .formed)
+      ∙ rw (known .counted .roles-are, known .counted .groups-are)
 
-pub few-lowers : (t l b : List ℕ) → length b ≡ 32 → FewLowers t l → Lowers t l b
-few-lowers t l b e h = record { are = h .are; room = omega (arith, h .few) }
+  pub sets-are : {first : ℕ} → first ≡ firstRole (diagramOf t) → first + roles + groups ≡ length (lower (diagramOf t))
+  sets-are e = rw e (sym all-sets)
+
+  module _ (few : Few t) where
+    few-roles : length (typesOf (allRoles (diagramOf t))) < 32
+    few-roles =
+        omega (
+          arith,
+          length-map (allRoles (diagramOf t)) (λ (r : Role). r .type),
+          known .counted .roles-are,
+          all-sets,
+          few .few,
+        )
+
+    pub few-types-within : {a a′ : List ℕ} {n : ℕ} → length a ≡ 32 → Wrote a 0 (typesOf (allRoles (diagramOf t))) a′ n → n ≤ length a′
+    few-types-within h w = wrote-within w (omega (arith, few-roles))
+
+    pub few-types-whole : {a a′ : List ℕ} {n : ℕ} → length a ≡ 32 → Wrote a 0 (typesOf (allRoles (diagramOf t))) a′ n → Types t (take n a′)
+    few-types-whole {a} {a′} {n} h w =
+        let e : take n a′ ≡ typesOf (allRoles (diagramOf t)) = wrote-front w (omega (arith, few-roles)) in
+        record { are = e; few = rw e (omega (arith, few-roles)) }
+
+module _ {t : List ℕ} (few : Few t) {a a′ : List ℕ} {n : ℕ} (long : length a ≡ 32) (w : Wrote a 0 (lower (diagramOf t)) a′ n) where
+  pub few-lower-within : n ≤ length a′
+  few-lower-within = wrote-within w (omega (arith, few .few))
+
+  pub few-lower-whole : FewLowers t (take n a′)
+  few-lower-whole =
+      let e : take n a′ ≡ lower (diagramOf t) = wrote-front w (omega (arith, few .few)) in
+      record { are = e; few = rw e (few .few) }
+
+  pub few-lower-room : {b : List ℕ} → length b ≡ 32 → Lowers t (take n a′) b
+  few-lower-room k = record { are = few-lower-whole .are; room = omega (arith, few-lower-whole .few) }
+
+pub few-known : (t : List ℕ) {n : ℕ} → n ≡ length (lower (diagramOf t)) → n < 32 → Few t
+few-known t e h = record { few = rw (← e) h }

@@ -7,7 +7,9 @@ use Rattle.fixpoint.specs.Limits.{Verdict, unsatisfiable, fixpoint}
 use Rattle.orm.specs.Outcome.{Outcome, refused, accepted, _>>=_, fitted, bufferAfter, Sized, written, Handed, handedBack}
 use Rattle.orm.specs.Sets.{lower, limits}
 use Rattle.lowering.specs.Encoding.{encode}
-use Rattle.table.specs.Positions.{diagramOf}
+use Rattle.table.specs.Positions.{diagramOf, Walkable}
+use Rattle.table.specs.Valid.{Valid}
+use Rattle.limits.specs.Single.{Counted}
 use Rattle.grammar.specs.Fault.{numberOf}
 use Rattle.bounds.specs.declared.CheckAnswer.{CheckAnswer}
 use Rattle.bounds.specs.declared.CheckAnswer.the-variants.{Refused, Unsatisfiable, TooShort, Accepted}
@@ -29,6 +31,14 @@ pub record Answered (o : Outcome Sized) (r : CheckAnswer) (before after : List �
   pub handed : checkOf r ≡ handedBack o
   pub buffer : after ≡ bufferAfter (written o) before
 
+-- A valid table, and how many roles and groups its diagram has
+pub record Known (t : List ℕ) (roles groups : ℕ) : Type 0 where
+  pub valid : Valid t
+  pub walkable : Walkable t
+  pub counted : Counted t roles groups
+  pub few-roles : roles ≤ 96
+  pub few-groups : groups ≤ 96
+
 -- The limits of a table's diagram, as numbers
 pub record Limits (t l : List ℕ) : Type 0 where
   pub are : l ≡ encode (limits (diagramOf t))
@@ -37,6 +47,10 @@ pub record Limits (t l : List ℕ) : Type 0 where
 pub record Lowers (t l space : List ℕ) : Type 0 where
   pub are : l ≡ lower (diagramOf t)
   pub room : length l ≤ length space
+
+-- A table whose diagram has few sets
+pub record Few (t : List ℕ) : Type 0 where
+  pub few : length (lower (diagramOf t)) < 32
 
 -- The lower bounds of few sets
 pub record FewLowers (t l : List ℕ) : Type 0 where

@@ -1,16 +1,17 @@
 // The check: the sizes of a diagram's sets, from its table. The bounds and limits of the sets are
 // written into local arrays, and the rounds run over them.
 ghost use mathlib.Core.Path.{_≡_};
-ghost use Prim.Native.Nat.{_<_};
+ghost use Prim.Native.Nat.{_≤_, _<_};
 ghost use lib.ListN.{length};
 ghost use Rattle.fixpoint.specs.Limits.{fixpoint, run};
 ghost use Rattle.lowering.specs.Encoding.{decode};
 ghost use Rattle.rounds.specs.Answer.{Bounds};
-ghost use Rattle.table.specs.Valid.{Valid};
-ghost use Rattle.limits.specs.Single.{Types};
+ghost use Rattle.table.specs.Positions.{diagramOf};
+ghost use Rattle.orm.specs.Sets.{lower};
+ghost use Rattle.selection.specs.Selected.{Types};
 ghost use Rattle.orm.specs.Outcome.{bufferAfter, written, handedBack};
 ghost use Rattle.orm.specs.Calls.{checkCall};
-ghost use Rattle.bounds.specs.Answer.{checkOf, ended, Answered, Limits, Lowers, FewLowers};
+ghost use Rattle.bounds.specs.Answer.{checkOf, ended, Answered, Known, Limits, Lowers, FewLowers, Few};
 
 // How a check ends: the table is refused (1 to 6), a set is emptied (7), the buffer is too short for
 // the sizes (8), or the sizes stand at its front.
@@ -56,20 +57,22 @@ fn answer(limits: &[u32], lower: &[u32], upper: &mut [u32], sizes: &mut [u32]) -
     }
 }
 
-// The same of a valid table with its limits and lower bounds; `upper` is scratch.
+// The same of a table with its limits and lower bounds; `upper` is scratch.
 fn check_in(
     table: &[u32],
+    roles: u32,
+    groups: u32,
     limits: &[u32],
     lower: &[u32],
     upper: &mut [u32],
     sizes: &mut [u32],
 ) -> CheckAnswer
-    requires { ⌜ Valid (now table) ⌝ }
+    requires { ⌜ Known (now table) roles groups ⌝ }
     requires { ⌜ Limits (now table) (now limits) ⌝ }
     requires { ⌜ Lowers (now table) (now lower) (now upper) ⌝ }
     ensures { λ r. ⌜ Answered (checkCall (now (table .entry)) (length (now (sizes .entry)))) r (now (sizes .entry)) (now (sizes .exit)) ⌝ }
 {
-    let k = limits::write_upper(table, upper);
+    let k = limits::write_upper(table, roles, groups, upper);
     answer(limits, lower, &mut upper[..k], sizes)
 }
 
@@ -95,18 +98,20 @@ fn answer_few(limits: &[u32], lower: &[u32], upper: &mut [u32], sizes: &mut [u32
 // The same of few sets. A function of its own, as the room of the other takes time to set aside.
 fn check_in_few(
     table: &[u32],
+    roles: u32,
+    groups: u32,
     limits: &[u32],
     lower: &[u32],
     upper: &mut [u32],
     sizes: &mut [u32],
 ) -> CheckAnswer
-    requires { ⌜ Valid (now table) ⌝ }
+    requires { ⌜ Known (now table) roles groups ⌝ }
     requires { ⌜ Limits (now table) (now limits) ⌝ }
     requires { ⌜ Lowers (now table) (now lower) (now upper) ⌝ }
     requires { ⌜ FewLowers (now table) (now lower) ⌝ }
     ensures { λ r. ⌜ Answered (checkCall (now (table .entry)) (length (now (sizes .entry)))) r (now (sizes .entry)) (now (sizes .exit)) ⌝ }
 {
-    let k = limits::write_upper(table, upper);
+    let k = limits::write_upper(table, roles, groups, upper);
     answer_few(limits, lower, &mut upper[..k], sizes)
 }
 
@@ -132,80 +137,125 @@ fn few_sets() -> [u32; 32] {
 }
 
 // With room for the sets of every diagram.
-fn check_by(table: &[u32], limits: &[u32], sizes: &mut [u32]) -> CheckAnswer
-    requires { ⌜ Valid (now table) ⌝ }
+fn check_by(
+    table: &[u32],
+    roles: u32,
+    groups: u32,
+    limits: &[u32],
+    sizes: &mut [u32],
+) -> CheckAnswer
+    requires { ⌜ Known (now table) roles groups ⌝ }
     requires { ⌜ Limits (now table) (now limits) ⌝ }
     ensures { λ r. ⌜ Answered (checkCall (now (table .entry)) (length (now (sizes .entry)))) r (now (sizes .entry)) (now (sizes .exit)) ⌝ }
 {
     let mut lower = set_space();
     let mut upper = set_space();
-    let n = limits::write_lower(table, &mut lower);
-    check_in(table, limits, &lower[..n], &mut upper, sizes)
+    let n = limits::write_lower(table, roles, groups, &mut lower);
+    check_in(table, roles, groups, limits, &lower[..n], &mut upper, sizes)
 }
 
 // With room for the limits of every diagram.
-fn check_large(table: &[u32], types: &[u32], sizes: &mut [u32]) -> CheckAnswer
-    requires { ⌜ Valid (now table) ⌝ }
+fn check_limited(
+    table: &[u32],
+    roles: u32,
+    groups: u32,
+    types: &[u32],
+    sizes: &mut [u32],
+) -> CheckAnswer
+    requires { ⌜ Known (now table) roles groups ⌝ }
     requires { ⌜ Types (now table) (now types) ⌝ }
     ensures { λ r. ⌜ Answered (checkCall (now (table .entry)) (length (now (sizes .entry)))) r (now (sizes .entry)) (now (sizes .exit)) ⌝ }
 {
     let mut limits = limit_space();
     let m = limits::write_limits(table, types, &mut limits);
-    check_by(table, &limits[..m], sizes)
+    check_by(table, roles, groups, &limits[..m], sizes)
 }
 
-// With room for few sets, whose lower bounds are known.
-fn check_few(table: &[u32], limits: &[u32], lower: &[u32], sizes: &mut [u32]) -> CheckAnswer
-    requires { ⌜ Valid (now table) ⌝ }
-    requires { ⌜ Limits (now table) (now limits) ⌝ }
-    requires { ⌜ FewLowers (now table) (now lower) ⌝ }
+// With room for every diagram. The types of all roles are written once, as every type's limit asks for them.
+fn check_large(table: &[u32], roles: u32, groups: u32, sizes: &mut [u32]) -> CheckAnswer
+    requires { ⌜ Known (now table) roles groups ⌝ }
     ensures { λ r. ⌜ Answered (checkCall (now (table .entry)) (length (now (sizes .entry)))) r (now (sizes .entry)) (now (sizes .exit)) ⌝ }
 {
-    let mut upper = few_sets();
-    check_in_few(table, limits, lower, &mut upper, sizes)
+    let mut types = role_space();
+    let n = selection::write_types(table, &mut types);
+    check_limited(table, roles, groups, &types[..n], sizes)
 }
 
-// With room for few limits.
-fn check_small(table: &[u32], types: &[u32], lower: &[u32], sizes: &mut [u32]) -> CheckAnswer
-    requires { ⌜ Valid (now table) ⌝ }
+// With room for few sets.
+fn check_few_by(
+    table: &[u32],
+    roles: u32,
+    groups: u32,
+    limits: &[u32],
+    sizes: &mut [u32],
+) -> CheckAnswer
+    requires { ⌜ Known (now table) roles groups ⌝ }
+    requires { ⌜ Limits (now table) (now limits) ⌝ }
+    requires { ⌜ Few (now table) ⌝ }
+    ensures { λ r. ⌜ Answered (checkCall (now (table .entry)) (length (now (sizes .entry)))) r (now (sizes .entry)) (now (sizes .exit)) ⌝ }
+{
+    let mut lower = few_sets();
+    let mut upper = few_sets();
+    let n = limits::write_lower(table, roles, groups, &mut lower);
+    check_in_few(table, roles, groups, limits, &lower[..n], &mut upper, sizes)
+}
+
+// With room for few limits, if that is enough.
+fn check_few_limited(
+    table: &[u32],
+    roles: u32,
+    groups: u32,
+    types: &[u32],
+    sizes: &mut [u32],
+) -> CheckAnswer
+    requires { ⌜ Known (now table) roles groups ⌝ }
     requires { ⌜ Types (now table) (now types) ⌝ }
-    requires { ⌜ FewLowers (now table) (now lower) ⌝ }
+    requires { ⌜ Few (now table) ⌝ }
     ensures { λ r. ⌜ Answered (checkCall (now (table .entry)) (length (now (sizes .entry)))) r (now (sizes .entry)) (now (sizes .exit)) ⌝ }
 {
     let mut limits = few_limits();
     let m = limits::write_limits(table, types, &mut limits);
     if m < 128 {
-        return check_few(table, &limits[..m], lower, sizes);
+        return check_few_by(table, roles, groups, &limits[..m], sizes);
     }
-    check_large(table, types, sizes)
+    check_large(table, roles, groups, sizes)
 }
 
-// With little room first: clearing much costs more than a small diagram's rounds. A long table has
-// many sets, as none takes more than 6 of its numbers.
-fn check_typed(table: &[u32], types: &[u32], sizes: &mut [u32]) -> CheckAnswer
-    requires { ⌜ Valid (now table) ⌝ }
-    requires { ⌜ Types (now table) (now types) ⌝ }
+// With little room: clearing much costs more than a small diagram's rounds.
+fn check_few(table: &[u32], roles: u32, groups: u32, sizes: &mut [u32]) -> CheckAnswer
+    requires { ⌜ Known (now table) roles groups ⌝ }
+    requires { ⌜ Few (now table) ⌝ }
     ensures { λ r. ⌜ Answered (checkCall (now (table .entry)) (length (now (sizes .entry)))) r (now (sizes .entry)) (now (sizes .exit)) ⌝ }
 {
-    if 200 < table.len() {
-        return check_large(table, types, sizes);
-    }
-    let mut lower = few_sets();
-    let n = limits::write_lower(table, &mut lower);
-    if n < 32 {
-        return check_small(table, types, &lower[..n], sizes);
-    }
-    check_large(table, types, sizes)
+    let mut types = few_sets();
+    let n = selection::write_types(table, &mut types);
+    check_few_limited(table, roles, groups, &types[..n], sizes)
 }
 
-// The types of all roles are written once, as every type's limit asks for them.
-fn check_valid(table: &[u32], sizes: &mut [u32]) -> CheckAnswer
-    requires { ⌜ Valid (now table) ⌝ }
+// How many sets there are.
+fn set_count(table: &[u32], roles: u32, groups: u32) -> u32
+    requires { ⌜ Known (now table) roles groups ⌝ }
+    ensures { λ r. ⌜ r ≡ length (lower (diagramOf (now (table .entry)))) ⌝ }
+{
+    table::first_role(table) + roles + groups
+}
+
+// The check of a valid table with so many roles and groups.
+fn check_valid(table: &[u32], roles: u32, groups: u32, sizes: &mut [u32]) -> CheckAnswer
+    requires { ⌜ Known (now table) roles groups ⌝ }
     ensures { λ r. ⌜ Answered (checkCall (now (table .entry)) (length (now (sizes .entry)))) r (now (sizes .entry)) (now (sizes .exit)) ⌝ }
 {
-    let mut types = role_space();
-    let n = limits::write_types(table, &mut types);
-    check_typed(table, &types[..n], sizes)
+    if set_count(table, roles, groups) < 32 {
+        return check_few(table, roles, groups, sizes);
+    }
+    check_large(table, roles, groups, sizes)
+}
+
+fn count(x: usize) -> u32
+    requires { ⌜ x ≤ 96 ⌝ }
+    ensures { λ r. ⌜ r ≡ x ⌝ }
+{
+    x as u32
 }
 
 // Writes the sizes of the sets of a table's diagram, in set order.
@@ -221,8 +271,8 @@ pub fn check(table: &[u32], sizes: &mut [u32]) -> CheckAnswer
         reader::FormAnswer::Accepted {
             types: _,
             preds: _,
-            roles: _,
-            groups: _,
-        } => check_valid(table, sizes),
+            roles,
+            groups,
+        } => check_valid(table, count(roles), count(groups), sizes),
     }
 }

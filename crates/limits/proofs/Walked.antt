@@ -19,11 +19,11 @@ use Rattle.buffer.specs.Written.{Wrote, Writing, Splits}
 use Rattle.buffer.specs.Laws.{wrote-then, wrote-as, writing-start}
 use Rattle.table.specs.Positions.{each, typesIn, rolesIn, groupsIn, predsIn, predLength, typeCount, predCount, firstPredAt, diagramOf}
 use Rattle.table.specs.Laws.Walks.{each-more, each-none, each-length, preds-more, preds-none}
-use Rattle.table.specs.Cursors.{placedAt, placedLeft, firstCursor, nextCursor, Reach}
+use Rattle.table.specs.Cursors.{placedAt, placedLeft, firstCursor, nextCursor}
 use Rattle.table.specs.Laws.Cursors.{placed-start, placed-more, placed-none}
 use Rattle.table.specs.declared.Cursor.{Cursor}
-use Rattle.selection.specs.Selected.{typesOf, positions}
-use Rattle.limits.specs.Single.{limitOfTypes, Types, Played}
+use Rattle.selection.specs.Selected.{positions, Types}
+use Rattle.limits.specs.Single.{limitOfTypes, Played}
 use Rattle.selection.specs.Laws.Selects.{positions-select, positions-length}
 use Rattle.lowering.specs.Laws.Decoding.{encode-append}
 
@@ -110,34 +110,9 @@ module _ (t : List ℕ) where
 
 -- ---- the types of all roles
 
-abbrev pub typesWithin : List Predicate → List ℕ
-typesWithin ps = typesOf (flatMap (λ (p : Predicate). p .roles) ps)
-
 module _ (t : List ℕ) where
-  pub played-start : (o : List ℕ) (at : ℕ) {p n : ℕ} → p ≡ firstPredAt t → n ≡ predCount t
-      → Writing o at (typesOf (allRoles (diagramOf t))) o at (typesWithin (predsIn n (drop p t)))
-  unfolding allRoles diagramOf
-  played-start o at ep en = rw (ep, en) (writing-start o at (typesOf (allRoles (diagramOf t))))
-
-  module _ (p n : ℕ) where
-    pub played-more : {e r : ℕ} → 0 < n → e ≡ p + predLength (drop p t) → r ≡ getD (drop p t) 2 0
-        → Splits (typesWithin (predsIn n (drop p t))) (typesOf (rolesIn r (drop (p + 4) t))) (typesWithin (predsIn (n - 1) (drop e t)))
-    unfolding flatMap
-    played-more {e} {r} h ee er =
-        let s : List ℕ = drop p t in
-        let rest : List Role = flatMap (λ (q : Predicate). q .roles) (predsIn (n - 1) (drop e t)) in
-        record {
-          is =
-              ap typesWithin (preds-more t p n h ee) ∙ map-append (λ (q : Role). q .type) (rolesIn (getD s 2 0) (drop 4 s)) rest
-              ∙ ap₂ {C = List ℕ} (λ m a. typesOf (rolesIn m a) ++ typesOf rest) (sym er) (drop-drop 4 p t);
-        }
-
-    pub played-none : n ≤ 0 → typesWithin (predsIn n (drop p t)) ≡ []
-    unfolding flatMap
-    played-none h = ap typesWithin (preds-none n (drop p t) h)
-
-  pub cursor-played : (types : List ℕ) {x : Cursor} → x ≡ firstCursor t → Reach x 32 → Types t types → Played t types (x .roles)
-  cursor-played types e r w = record { known = w; starts = ap (λ (y : Cursor). y .roles) e; small = omega (arith, r .roles, w .few) }
+  pub first-played : (types : List ℕ) {first : ℕ} → first ≡ firstRole (diagramOf t) → first ≤ 64 → Types t types → Played t types first
+  first-played types e h w = record { known = w; starts = e; small = omega (arith, w .few) }
 
 -- ---- types
 

@@ -3,11 +3,11 @@ use Prim.Native.Nat.{ℕ, suc, _+_, _≤_}
 use mathlib.Core.Path.{_≡_}
 use mathlib.Core.List.{List}
 use lib.ListN.{length}
-use Rattle.orm.specs.Diagram.{allRoles}
+use Rattle.orm.specs.Diagram.{allRoles, allGroups}
 use Rattle.fixpoint.specs.Limits.{Limit, product, sum}
 use Rattle.orm.specs.Sets.{Placed, groupSet, groupRoles, firstRole}
 use Rattle.table.specs.Positions.{diagramOf}
-use Rattle.selection.specs.Selected.{typesOf, positions}
+use Rattle.selection.specs.Selected.{positions, Types}
 
 -- 'q at most the product of its p'
 abbrev pub limitOfGroup : Placed → ℕ → Limit
@@ -17,12 +17,12 @@ limitOfGroup x number = record { target = groupSet x number; most = product (gro
 abbrev pub limitOfTypes : List ℕ → ℕ → ℕ → Limit
 limitOfTypes types first a = record { target = a; most = sum (positions (suc a) first types) }
 
--- The types of all roles of a table's diagram, few
-pub record Types (t types : List ℕ) : Type 0 where
-  pub are : types ≡ typesOf (allRoles (diagramOf t))
-  pub few : length types ≤ 96
+-- How many roles and groups a table's diagram has
+pub record Counted (t : List ℕ) (roles groups : ℕ) : Type 0 where
+  pub roles-are : roles ≡ length (allRoles (diagramOf t))
+  pub groups-are : groups ≡ length (allGroups (diagramOf t))
 
--- and the set of the first role
+-- The types of all roles, and the set of the first role
 pub record Played (t types : List ℕ) (first : ℕ) : Type 0 where
   pub known : Types t types
   pub starts : first ≡ firstRole (diagramOf t)

@@ -1,9 +1,9 @@
-pub mod Types
+pub mod TypeLaws
 pub mod Roles
-pub mod Columns
-pub mod Parts
+pub mod ColumnLaws
+pub mod PartLaws
 pub mod Planning
-pub mod Rows
+pub mod RowCells
 pub mod RowLaws
-pub mod Preds
-pub mod Counts
+pub mod PredLaws
+pub mod CountLaws

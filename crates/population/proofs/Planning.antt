@@ -15,7 +15,7 @@ use Rattle.tuples.specs.Steps.{padded, steps, Small, Bounded}
 use Rattle.tuples.specs.StepsLaws.{padded-front}
 use Rattle.tuples.specs.Nested.{stepsOfEach}
 use Rattle.population.specs.Plan.{order, counts, owns, sizesOf, Wants, Listed, Few, Ordered, Opened, Owned}
-use Rattle.population.proofs.Parts.{grouped, order-few, parts-few, gathered, gathered-parts, gathered-end}
+use Rattle.population.proofs.PartLaws.{grouped, order-few, parts-few, gathered, gathered-parts, gathered-end}
 
 -- sizes of sets are small
 map-small : {A : Type 0} (f : A → ℕ) (xs : List A) → ((a : A) → f a ≤ 4096) → (k : ℕ) → getD (map f xs) k 0 ≤ 4096

@@ -18,44 +18,6 @@ use Rattle.table.specs.Positions.{rolesIn, predsIn, predLength, predCount, firs
 use Rattle.table.specs.Laws.Walks.{each-more, each-none, preds-more, preds-none}
 use Rattle.population.specs.Plan.{position, played, share}
 
--- ---- the types of roles
-
-abbrev pub typesOf : List Role → List ℕ
-typesOf rs = map (λ (r : Role). r .type) rs
-
-module _ (t : List ℕ) (p n : ℕ) where
-  pub type-more : {x : ℕ} → x ≡ getD (drop p t) 0 0 → 0 < n
-      → Splits (typesOf (rolesIn n (drop p t))) (x ∷ []) (typesOf (rolesIn (n - 1) (drop (p + 3) t)))
-  type-more e h = record { is = ap typesOf (each-more roleOf 3 t p n h) ∙ rw e }
-
-  pub type-none : n ≤ 0 → typesOf (rolesIn n (drop p t)) ≡ []
-  type-none h = ap typesOf (each-none roleOf 3 n (drop p t) h)
-
--- those of some predicates
-unfoldable pub typesIn : List Predicate → List ℕ
-typesIn ps = typesOf (flatMap (λ (p : Predicate). p .roles) ps)
-
-module _ (t : List ℕ) where
-  pub role-types-start : (o : List ℕ) (at : ℕ) {q n : ℕ} → q ≡ firstPredAt t → n ≡ predCount t
-      → Writing o at (typesOf (allRoles (diagramOf t))) o at (typesIn (predsIn n (drop q t)))
-  unfolding allRoles diagramOf typesIn
-  role-types-start o at eq en = rw (eq, en) (writing-start o at (typesOf (allRoles (diagramOf t))))
-
-  module _ (q n : ℕ) where
-    pub role-types-more : {r e : ℕ} → 0 < n → r ≡ getD (drop q t) 2 0 → e ≡ q + predLength (drop q t)
-        → Splits (typesIn (predsIn n (drop q t))) (typesOf (rolesIn r (drop (q + 4) t))) (typesIn (predsIn (n - 1) (drop e t)))
-    unfolding typesIn flatMap
-    role-types-more {r} {e} h er ee =
-        let rest : List Role = flatMap (λ (p : Predicate). p .roles) (predsIn (n - 1) (drop e t)) in
-        record {
-          is = ap typesIn (preds-more t q n h ee) ∙ map-append (λ (x : Role). x .type)
-              (rolesIn (getD (drop q t) 2 0) (drop 4 (drop q t))) rest ∙ rw (er, ← drop-drop 4 q t);
-        }
-
-    pub role-types-none : n ≤ 0 → typesIn (predsIn n (drop q t)) ≡ []
-    unfolding typesIn flatMap
-    role-types-none h = ap typesIn (preds-none n (drop q t) h)
-
 -- ---- members taken before a role
 
 pub reached-set : {y number : ℕ} (set p : ℕ) → y ≡ number → eqb set p ≡ (eqb y number && eqb set p)

@@ -18,7 +18,7 @@ use Rattle.tuples.specs.Steps.{steps, tupleIn}
 use Rattle.tuples.specs.StepsLaws.{length-tupleIn, steps-row}
 use Rattle.tuples.specs.Nested.{stepsOfEach, tuplesIn, each-steps, each-row, length-steps}
 use Rattle.population.specs.Plan.{order, counts, owns, sizesOf, position, played, columnOf, cellOf, rowBy}
-use Rattle.population.proofs.Columns.{columnsFrom}
+use Rattle.population.proofs.ColumnLaws.{columnsFrom}
 
 -- ---- looking up a role
 

@@ -10,7 +10,8 @@ use Rattle.orm.specs.Diagram.{Diagram, Role, index, allRoles}
 use Rattle.orm.specs.Sets.{Placed, Part, parts, groupRoles, firstRole}
 use Rattle.orm.specs.Populate.{size, firstValue, takenBefore, row}
 use Rattle.table.specs.Positions.{each, diagramOf, Walkable}
-use Rattle.table.specs.Cursors.{placedAt, Reach}
+use Rattle.selection.specs.Selected.{Types}
+use Rattle.table.specs.Cursors.{placedAt, Here}
 use Rattle.table.specs.Valid.{Under}
 use Rattle.table.specs.declared.Cursor.{Cursor}
 use Rattle.tuples.specs.Steps.{steps, tupleIn, Small}
@@ -107,18 +108,13 @@ pub record Few (t : List ℕ) (x : Cursor) : Type 0 where
   pub roles : getD (drop (x .at) t) 2 0 ≤ 6
   pub groups : getD (drop (x .at) t) 3 0 ≤ 6
 
--- The types of all roles
-pub record RoleTypes (t types : List ℕ) : Type 0 where
-  pub are : types ≡ map (λ (r : Role). r .type) (allRoles (diagramOf t))
-  pub small-enough : length types ≤ 96
-
 -- ---- what is known of a predicate whose cells are written
 
 -- A walk is at `x`, and the sizes `c` are small
 pub record Ready (t c : List ℕ) (x : Cursor) : Type 0 where
   pub walk : Walkable t
   pub sizes : Small c
-  pub reach : Reach x 1
+  pub here : Here t x
   pub few : Few t x
 
 -- The roles of its parts, part by part
@@ -134,7 +130,7 @@ pub record Opened (t : List ℕ) (x : Cursor) (a : ℕ) (roles : List ℕ) : Typ
 pub record Columned (t c : List ℕ) (x : Cursor) (roles columns : List ℕ) : Type 0 where
   pub ordered : Ordered t x roles
   pub types : List ℕ
-  pub typed : RoleTypes t types
+  pub typed : Types t types
   pub are : columns ≡ flatten (mapFrom (columnOf (diagramOf t) c types (order (placedAt t x))) (x .roles) (placedAt t x .predicate .roles))
 
 -- The sizes of its parts

@@ -1,2 +1,3 @@
 -- The laws of loops over roles.
 pub mod Selects
+pub mod Types

@@ -1,10 +1,12 @@
 -- Words for what single functions write and count.
-use Prim.Native.Nat.{ℕ, suc, _≤_}
+use Prim.Native.Nat.{ℕ, suc, _+_, _*_, _≤_}
+use mathlib.Core.Path.{_≡_}
 use mathlib.Core.Bool.{Bool, true, false}
 use mathlib.Core.List.{List, [], _∷_, _++_, map}
 use lib.Dec.{eqb}
-use lib.ListN.{getD}
-use Rattle.orm.specs.Diagram.{Role}
+use lib.ListN.{length, getD}
+use Rattle.orm.specs.Diagram.{Role, allRoles}
+use Rattle.table.specs.Positions.{diagramOf}
 
 -- The number if the test holds
 abbrev pub when : Bool → ℕ → List ℕ
@@ -23,9 +25,14 @@ unfoldable pub positions : ℕ → ℕ → List ℕ → List ℕ
 positions number i [] = []
 positions number i (x ∷ xs) = when (eqb x number) i ++ positions number (suc i) xs
 
--- Numbers that a loop over the roles of a predicate starts from: its first line's position, how many, the first one's set, the place on the line
-pub record Bounded (q count first i : ℕ) : Type 0 where
-  pub at : q ≤ 300000000
+-- The lines of `count` roles stand in the table from position q on; `first` is the first one's set, and `i` a place on a line
+pub record Bounded (t : List ℕ) (q count first i : ℕ) : Type 0 where
+  pub inside : q + 3 * count ≤ length t
   pub few : count ≤ 999999
   pub set : first ≤ 200000000
   pub place : i ≤ 2
+
+-- The types of all roles of a table's diagram, few
+pub record Types (t types : List ℕ) : Type 0 where
+  pub are : types ≡ typesOf (allRoles (diagramOf t))
+  pub few : length types ≤ 96

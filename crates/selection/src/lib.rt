@@ -8,9 +8,10 @@ ghost use lib.ListN.{length, drop};
 ghost use Rattle.counting.specs.Lists.{upFrom};
 ghost use Rattle.orm.specs.Sets.{select, groupRoles};
 ghost use Rattle.buffer.specs.Written.{Wrote};
-ghost use Rattle.table.specs.Positions.{rolesIn, Walkable};
-ghost use Rattle.table.specs.Cursors.{placedAt, Reach};
-ghost use Rattle.selection.specs.Selected.{when, has, typesOf, positions, Bounded};
+ghost use Rattle.orm.specs.Diagram.{allRoles};
+ghost use Rattle.table.specs.Positions.{rolesIn, diagramOf, Walkable};
+ghost use Rattle.table.specs.Cursors.{placedAt, Here};
+ghost use Rattle.selection.specs.Selected.{when, has, typesOf, positions, Bounded, Types};
 
 // ---- single numbers
 
@@ -78,7 +79,7 @@ pub fn push_roles(
     at: usize,
 ) -> usize
     requires { ⌜ Walkable (now t) ⌝ }
-    requires { ⌜ Bounded q count first i ⌝ }
+    requires { ⌜ Bounded (now t) q count first i ⌝ }
     ensures { λ r.
         ⌜ Wrote (now (out .entry)) at (select (has i number) first (rolesIn count (drop q (now (t .entry))))) (now (out .exit)) r ⌝ }
 {
@@ -87,7 +88,7 @@ pub fn push_roles(
     let mut set = first;
     let mut to = at;
     while 0 < left {
-        let yes = same(table::field(t, p, i), number);
+        let yes = same(table::number(t, p, i), number);
         to = push_if(out, to, yes, set);
         p += 3;
         set += 1;
@@ -99,7 +100,7 @@ pub fn push_roles(
 // How many they are.
 pub fn count_roles(t: &[u32], q: usize, count: u32, i: usize, number: u32) -> u32
     requires { ⌜ Walkable (now t) ⌝ }
-    requires { ⌜ Bounded q count 0 i ⌝ }
+    requires { ⌜ Bounded (now t) q count 0 i ⌝ }
     ensures { λ r. ⌜ r ≡ length (select (has i number) 0 (rolesIn count (drop q (now (t .entry))))) ⌝ }
     ensures { λ r. ⌜ r ≤ count ⌝ }
 {
@@ -107,7 +108,7 @@ pub fn count_roles(t: &[u32], q: usize, count: u32, i: usize, number: u32) -> u3
     let mut p = q;
     let mut n: u32 = 0;
     while 0 < left {
-        let yes = same(table::field(t, p, i), number);
+        let yes = same(table::number(t, p, i), number);
         n = add_if(n, yes);
         p += 3;
         left -= 1;
@@ -116,23 +117,49 @@ pub fn count_roles(t: &[u32], q: usize, count: u32, i: usize, number: u32) -> u3
 }
 
 // The types of the `count` roles from position q on.
-pub fn push_types(t: &[u32], q: usize, count: u32, out: &mut [u32], at: usize) -> usize
+fn push_types(t: &[u32], q: usize, count: u32, out: &mut [u32], at: usize) -> usize
     requires { ⌜ Walkable (now t) ⌝ }
-    requires { ⌜ Bounded q count 0 0 ⌝ }
+    requires { ⌜ Bounded (now t) q count 0 0 ⌝ }
     ensures { λ r. ⌜ Wrote (now (out .entry)) at (typesOf (rolesIn count (drop q (now (t .entry))))) (now (out .exit)) r ⌝ }
 {
     let mut left = count;
     let mut p = q;
     let mut to = at;
     while 0 < left {
-        to = buffer::push(out, to, table::field(t, p, 0));
+        to = buffer::push(out, to, table::number(t, p, 0));
         p += 3;
         left -= 1;
     }
     to
 }
 
+// The types of all roles.
+pub fn write_types(t: &[u32], out: &mut [u32]) -> usize
+    requires { ⌜ Walkable (now t) ⌝ }
+    ensures { λ r. ⌜ Wrote (now (out .entry)) 0 (typesOf (allRoles (diagramOf (now (t .entry))))) (now (out .exit)) r ⌝ }
+{
+    let mut left = table::pred_count(t);
+    let mut q = table::first_pred(t);
+    let mut to = 0;
+    while 0 < left {
+        let count = table::number(t, q, 2);
+        to = push_types(t, q + 4, count, out, to);
+        q = table::next_pred(t, q);
+        left -= 1;
+    }
+    to
+}
+
 // ---- roles by their types
+
+// How many roles a table has whose roles are of these types.
+pub fn role_count(t: &[u32], types: &[u32]) -> u32
+    requires { ⌜ Types (now t) (now types) ⌝ }
+    ensures { λ r. ⌜ r ≡ length (allRoles (diagramOf (now (t .entry)))) ⌝ }
+    ensures { λ r. ⌜ r ≤ 96 ⌝ }
+{
+    types.len() as u32
+}
 
 // The sets of those of the type with this number; `first` is the first role's set.
 pub fn push_of_type(types: &[u32], number: u32, first: u32, out: &mut [u32], at: usize) -> usize
@@ -171,21 +198,21 @@ pub fn count_of_type(types: &[u32], number: u32) -> u32
 // The sets of the roles in the predicate's group with this number; 0: in no group.
 pub fn push_in_group(t: &[u32], x: table::Cursor, number: u32, out: &mut [u32], at: usize) -> usize
     requires { ⌜ Walkable (now t) ⌝ }
-    requires { ⌜ Reach x 1 ⌝ }
+    requires { ⌜ Here (now t) x ⌝ }
     ensures { λ r. ⌜ Wrote (now (out .entry)) at (groupRoles (placedAt (now (t .entry)) x) number) (now (out .exit)) r ⌝ }
 {
     let q = x.at + 4;
-    let count = table::field(t, x.at, 2);
+    let count = table::number(t, x.at, 2);
     push_roles(t, q, count, x.roles, 2, number, out, at)
 }
 
 pub fn count_in_group(t: &[u32], x: table::Cursor, number: u32) -> u32
     requires { ⌜ Walkable (now t) ⌝ }
-    requires { ⌜ Reach x 1 ⌝ }
+    requires { ⌜ Here (now t) x ⌝ }
     ensures { λ r. ⌜ r ≡ length (groupRoles (placedAt (now (t .entry)) x) number) ⌝ }
     ensures { λ r. ⌜ r ≤ 999999 ⌝ }
 {
     let q = x.at + 4;
-    let count = table::field(t, x.at, 2);
+    let count = table::number(t, x.at, 2);
     count_roles(t, q, count, 2, number)
 }

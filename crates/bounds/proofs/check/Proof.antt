@@ -1,6 +1,6 @@
--- `bounds::check` meets its contract. What the reader refuses is refused, and what it accepts is valid.
+-- `bounds::check` meets its contract. A table that the reader refuses, or a valid one.
 -- Assumes nothing.
-use Rattle.bounds.proofs.Tables.{table-refused, table-kept, table-valid}
+use Rattle.bounds.proofs.Tables.{table-refused, table-kept, roles-narrow, groups-narrow, table-counted}
 use borrow.Author.Needs.{needs}
 use Rattle.bounds.proofs.check.Statement.{statement}
 use Rattle.bounds.proofs.check.Tie as tie
@@ -12,7 +12,9 @@ check-spec =
     (λ c κs. search needs)
     (λ c. search needs)
     (λ c. search needs)
-    (λ c κs. search (needs, table-valid))
+    (λ c κs. search (needs, roles-narrow))
+    (λ c κs. search (needs, groups-narrow))
+    (λ c κs. search (needs, table-counted))
     (λ c. search (needs, table-refused, table-kept))
     (λ c. search needs)
     (λ c. search needs))

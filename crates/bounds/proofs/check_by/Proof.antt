@@ -1,6 +1,5 @@
--- `bounds::check_by` meets its contract. There is room for the sets of every diagram.
+-- `bounds::check_by` meets its contract. The lower bounds.
 -- Assumes nothing.
-use Rattle.table.specs.Laws.Valid.{valid-walkable}
 use Rattle.bounds.proofs.Tables.{front-count, lower-within, lower-whole}
 use borrow.Author.Needs.{needs}
 use Rattle.bounds.proofs.check_by.Statement.{statement}
@@ -13,7 +12,7 @@ check-by-spec =
     (λ c κs. search needs)
     (λ c κs. search needs)
     (λ c. search needs)
-    (λ c κs. search (needs, valid-walkable))
+    (λ c κs. search needs)
     (λ c. search (needs, lower-within))
     (λ c. search (needs, front-count, lower-within))
     (λ c. search needs)

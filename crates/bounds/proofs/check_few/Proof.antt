@@ -1,6 +1,6 @@
--- `bounds::check_few` meets its contract. There is room for few sets.
+-- `bounds::check_few` meets its contract. The types of the roles, which are few.
 -- Assumes nothing.
-use Rattle.bounds.proofs.Tables.{few-lowers}
+use Rattle.bounds.proofs.Tables.{front-count, few-types-within, few-types-whole}
 use borrow.Author.Needs.{needs}
 use Rattle.bounds.proofs.check_few.Statement.{statement}
 use Rattle.bounds.proofs.check_few.Tie as tie
@@ -11,6 +11,9 @@ check-few-spec =
     (tie.spec
     (λ c κs. search needs)
     (λ c. search needs)
-    (λ c κs. (search needs, (search needs, (search (needs, few-lowers), search needs))))
+    (λ c κs. search needs)
+    (λ c. search (needs, few-types-within))
+    (λ c. search (needs, front-count, few-types-within))
+    (λ c κs. (search needs, (search (needs, few-types-whole), search needs)))
     (λ c. search needs)
     (λ c. search needs))

@@ -1,6 +1,5 @@
--- `bounds::check_in` meets its contract. The front of the scratch holds the diagram's upper bounds.
+-- `bounds::check_in` meets its contract. The rounds from the upper bounds.
 -- Assumes nothing.
-use Rattle.table.specs.Laws.Valid.{valid-walkable}
 use Rattle.bounds.proofs.Tables.{front-count, upper-within, check-bounds, checked}
 use borrow.Author.Needs.{needs}
 use Rattle.bounds.proofs.check_in.Statement.{statement}
@@ -10,7 +9,7 @@ pub check-in-spec : {M : Type 1} → statement M
 check-in-spec =
     tie.close
     (tie.spec
-    (λ c κs. search (needs, valid-walkable))
+    (λ c κs. search needs)
     (λ c. search (needs, upper-within))
     (λ c. search (needs, front-count, upper-within))
     (λ c κs. search (needs, check-bounds))

@@ -1,7 +1,6 @@
--- `bounds::check_large` meets its contract. There is room for the limits of every diagram.
+-- `bounds::check_large` meets its contract. The types of all roles.
 -- Assumes nothing.
-use Rattle.table.specs.Laws.Valid.{valid-walkable}
-use Rattle.bounds.proofs.Tables.{front-count, limits-fill, limits-whole}
+use Rattle.bounds.proofs.Tables.{front-count, types-within, types-whole}
 use borrow.Author.Needs.{needs}
 use Rattle.bounds.proofs.check_large.Statement.{statement}
 use Rattle.bounds.proofs.check_large.Tie as tie
@@ -12,9 +11,9 @@ check-large-spec =
     (tie.spec
     (λ c κs. search needs)
     (λ c. search needs)
-    (λ c κs. (search (needs, valid-walkable), search needs))
-    (λ c. search (needs, limits-fill))
-    (λ c. search (needs, front-count, limits-fill))
-    (λ c κs. search (needs, limits-whole))
+    (λ c κs. search needs)
+    (λ c. search (needs, types-within))
+    (λ c. search (needs, front-count, types-within))
+    (λ c κs. search (needs, types-whole))
     (λ c. search needs)
     (λ c. search needs))

@@ -26,7 +26,7 @@ use Rattle.lowering.specs.Laws.Decoding.{encode-append}
 -- ---- the bounds
 
 module _ (d : Diagram) (w : WellFormed d) where
-  lower-length : length (lower d) ≡ length (d .types) + length (d .preds) + length (allRoles d) + length (allGroups d)
+  pub lower-length : length (lower d) ≡ length (d .types) + length (d .preds) + length (allRoles d) + length (allGroups d)
   unfolding lower
   lower-length = simp (length-append, length-map)
 

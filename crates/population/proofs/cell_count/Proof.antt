@@ -1,7 +1,7 @@
 -- `population::cell_count` meets its contract. The types' cells, and the predicates'.
 -- Assumes nothing.
 use Rattle.table.specs.Laws.Valid.{valid-walkable}
-use Rattle.population.proofs.Counts.{cells-counted}
+use Rattle.population.proofs.CountLaws.{cells-counted}
 use borrow.Author.Needs.{needs}
 use Rattle.population.proofs.cell_count.Statement.{statement}
 use Rattle.population.proofs.cell_count.Tie as tie

@@ -1,8 +1,8 @@
 -- `population::write_cells` meets its contract. The types' cells, then the predicates'.
 -- Assumes nothing.
 use Rattle.table.specs.Laws.Valid.{valid-walkable}
-use Rattle.population.proofs.Parts.{front-count}
-use Rattle.population.proofs.Preds.{types-within, types-listed, cells-is}
+use Rattle.population.proofs.PartLaws.{front-count}
+use Rattle.population.proofs.PredLaws.{types-within, types-listed, cells-is}
 use borrow.Author.Needs.{needs}
 use Rattle.population.proofs.write_cells.Statement.{statement}
 use Rattle.population.proofs.write_cells.Tie as tie

@@ -13,7 +13,7 @@ use Rattle.selection.proofs.count_roles.Tie as tie
 
 abbrev Inv-loop : tie.InvT-loop
 Inv-loop t q count i number left₀ p₀ n₀ left p n =
-    (p + 3 * left ≤ 400000000) × (n + left ≤ count)
+    (p + 3 * left ≤ length t) × (n + left ≤ count)
     × (n + length (select (has i number) 0 (rolesIn left (drop p t))) ≡ length (select (has i number) 0 (rolesIn count (drop q t))))
 
 abbrev μ-loop : tie.MeasureT-loop

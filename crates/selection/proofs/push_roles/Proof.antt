@@ -1,7 +1,7 @@
 -- `selection::push_roles` meets its contract. The roles selected from those left come to the whole.
 -- Assumes nothing.
 use Prim.Native.Nat.{_+_, _*_, _≤_}
-use lib.ListN.{drop}
+use lib.ListN.{length, drop}
 use Rattle.orm.specs.Sets.{select}
 use Rattle.table.specs.Positions.{rolesIn}
 use Rattle.buffer.specs.Written.{Writing}
@@ -14,7 +14,7 @@ use Rattle.selection.proofs.push_roles.Tie as tie
 
 abbrev Inv-loop : tie.InvT-loop
 Inv-loop t q count first i number out₀ at left₀ p₀ set₀ to₀ out left p set to =
-    (p + 3 * left ≤ 400000000) × (set + left ≤ 300000000)
+    (p + 3 * left ≤ length t) × (set + left ≤ 300000000)
     × Writing out₀ at (select (has i number) first (rolesIn count (drop q t))) out to (select (has i number) set (rolesIn left (drop p t)))
 
 abbrev μ-loop : tie.MeasureT-loop

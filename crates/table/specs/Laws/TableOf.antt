@@ -1,5 +1,5 @@
 -- `diagramOf` undoes `table`: a table without fault of form gives by positions the diagram that reading it gives.
-use Prim.Native.Nat.{ℕ, _+_, _*_}
+use Prim.Native.Nat.{ℕ, suc, _+_, _*_, _≤_}
 use native.Mathlib.Nat.{mul-suc}
 use native.Mathlib.Omega.{arith}
 use mathlib.Core.Path.{_≡_, refl, sym, ap, ap₂, _∙_}
@@ -12,7 +12,7 @@ use Rattle.orm.specs.Reader.{read}
 use Rattle.orm.specs.Form.{typeOf, roleOf, groupOf, reading}
 use Rattle.orm.specs.Text.{tableLine}
 use Rattle.reading.specs.Laws.{table-read-iff}
-use Rattle.table.specs.Positions.{each, typesIn, rolesIn, groupsIn, predOf, predLength, predsIn, diagramOf}
+use Rattle.table.specs.Positions.{each, typesIn, rolesIn, groupsIn, predOf, predLength, predsIn, predsLength, predCount, firstPredAt, diagramOf}
 
 -- The numbers of some lines
 unfoldable pub values : List Line → List ℕ
@@ -106,6 +106,17 @@ module _ (p : Predicate) (s : List ℕ) where
       (roles-back (p .roles) (groups ++ s))
       (ap (groupsIn (length (p .groups))) groups-at ∙ groups-back (p .groups) s)
 
+  pred-long : length (values (linesOfPred p)) ≡ predLength whole
+  unfolding whole head roles groups linesOfPred flatMap values lineOfPred
+  pred-long =
+      omega (
+        arith,
+        ap length (values-append (map lineOfRole (p .roles)) (map lineOfGroup (p .groups))),
+        length-append roles groups,
+        roles-long (p .roles),
+        groups-long (p .groups),
+      )
+
 preds-back : (ps : List Predicate) (s : List ℕ) → predsIn (length ps) (values (flatMap linesOfPred ps) ++ s) ≡ ps
 unfolding predsIn flatMap
 preds-back [] s = refl
@@ -116,6 +127,25 @@ preds-back (p ∷ ps) s =
     ∙ append-assoc (values (linesOfPred p)) (values (flatMap linesOfPred ps)) s ∙ pred-whole p rest in
     ap (λ (x : List ℕ). predOf x ∷ predsIn (length ps) (drop (predLength x) x)) e
     ∙ ap₂ {C = List Predicate} (λ x xs. x ∷ xs) (pred-back p rest) (ap (predsIn (length ps)) (pred-end p rest) ∙ preds-back ps s)
+
+preds-long : (ps : List Predicate) (s : List ℕ)
+    → predsLength (length ps) (values (flatMap linesOfPred ps) ++ s) ≡ length (values (flatMap linesOfPred ps))
+unfolding predsLength flatMap values
+preds-long [] s = refl
+preds-long (p ∷ ps) s =
+    let rest : List ℕ = values (flatMap linesOfPred ps) ++ s in
+    let e : values (linesOfPred p ++ flatMap linesOfPred ps) ++ s ≡ whole p rest =
+    ap (λ (x : List ℕ). x ++ s) (values-append (linesOfPred p) (flatMap linesOfPred ps))
+    ∙ append-assoc (values (linesOfPred p)) (values (flatMap linesOfPred ps)) s ∙ pred-whole p rest in
+    let here : predsLength (suc (length ps)) (whole p rest) ≡ predLength (whole p rest) + length (values (flatMap linesOfPred ps)) =
+    ap (λ (x : List ℕ). predLength (whole p rest) + predsLength (length ps) x) (pred-end p rest)
+    ∙ ap (λ (n : ℕ). predLength (whole p rest) + n) (preds-long ps s) in
+    let long : length (values (linesOfPred p ++ flatMap linesOfPred ps))
+    ≡ length (values (linesOfPred p)) + length (values (flatMap linesOfPred ps)) =
+    ap length (values-append (linesOfPred p) (flatMap linesOfPred ps))
+    ∙ length-append (values (linesOfPred p)) (values (flatMap linesOfPred ps)) in
+    ap (predsLength (suc (length ps))) e ∙ here
+    ∙ sym (long ∙ ap (λ (n : ℕ). n + length (values (flatMap linesOfPred ps))) (pred-long p rest))
 
 module _ (d : Diagram) where
   types : List ℕ
@@ -155,6 +185,17 @@ module _ (d : Diagram) where
       (ap₂ (λ (ts : List ObjectType) (ps : List Predicate). record { types = ts; preds = ps })
       (types-back (d .types) from-preds)
       (ap₂ (λ (s r : List ℕ). predsIn (getD s 0 0) r) preds-at preds-after ∙ preds-back (d .preds) (length (allRoles d) ∷ [])))
+
+  -- Every line that the table tells of stands in it
+  pub table-inside : firstPredAt (table d) + predsLength (predCount (table d)) (drop (firstPredAt (table d)) (table d)) ≤ length (table d)
+  unfolding types from-preds
+  table-inside =
+      let last : List ℕ = length (allRoles d) ∷ [] in
+      let preds : List ℕ = values (flatMap linesOfPred (d .preds)) in
+      let t : List ℕ = 1 ∷ length (d .types) ∷ (types ++ from-preds) in
+      let long : predsLength (getD (drop (2 + 6 * length (d .types)) t) 0 0) (drop (3 + 6 * length (d .types)) t) ≡ length preds =
+      ap₂ (λ (s r : List ℕ). predsLength (getD s 0 0) r) preds-at preds-after ∙ preds-long (d .preds) last in
+      rw table-whole (omega (arith, long, length-append types from-preds, types-long (d .types), length-append preds last))
 
 -- Reading and positions agree
 pub read-back : (t : List ℕ) (d : Diagram) (n : ℕ) (rest : List ℕ) → reading tableLine t ≡ read d n rest → diagramOf t ≡ d

@@ -16,9 +16,9 @@ use Rattle.orm.specs.WellFormed.{TypeForm, RoleForm, GroupForm, PredForm, WellF
 use Rattle.reading.specs.TextLength.{first-small}
 use Rattle.reading.specs.Laws.{table-accepted-iff}
 use Rattle.table.specs.Valid.{Valid, Under}
-use Rattle.table.specs.Positions.{typeCount, predCount, firstPredAt, diagramOf, Walkable}
+use Rattle.table.specs.Positions.{predsLength, typeCount, predCount, firstPredAt, diagramOf, Walkable}
 use Rattle.table.specs.Laws.Walks.{each-length, preds-length}
-use Rattle.table.specs.Laws.TableOf.{values, values-append, table-back}
+use Rattle.table.specs.Laws.TableOf.{values, values-append, table-back, table-inside}
 
 pub under-nil : (b : ℕ) → Under b []
 under-nil b = record { at = λ k. omega arith }
@@ -128,6 +128,9 @@ accepted-valid t d e =
     let same-d : diagramOf t ≡ d = ap diagramOf (a .0) ∙ table-back d in
     record { reads = rw same-d e; formed = rw same-d (a .1) }
 
+abbrev Inside : List ℕ → Type 0
+Inside t = firstPredAt t + predsLength (predCount t) (drop (firstPredAt t) t) ≤ length t
+
 pub valid-walkable : {t : List ℕ} → Valid t → Walkable t
 unfolding diagramOf
 valid-walkable {t} v =
@@ -137,4 +140,5 @@ valid-walkable {t} v =
       small = subst⁻¹ (Under 999999) (table-accepted-iff t (diagramOf t) .0 (v .reads) .0) (table-small (diagramOf t) (v .formed)) .at;
       few-types = omega (arith, types, v .formed .typeCount .1);
       few-preds = omega (arith, preds, v .formed .predCount .1);
+      whole = subst⁻¹ Inside (table-accepted-iff t (diagramOf t) .0 (v .reads) .0) (table-inside (diagramOf t));
     }

@@ -7,7 +7,8 @@ use mathlib.Core.List.{List, [], _∷_, _++_, flatMap}
 use lib.ListN.{length, getD, drop, length-append, length-drop, List·getD-eq-default}
 use lib.Seq.{drop-drop, getD-drop}
 use Rattle.orm.specs.Diagram.{Predicate, allRoles, allGroups}
-use Rattle.table.specs.Positions.{each, predOf, predLength, predsIn, typeCount, predCount, firstPredAt, diagramOf, Walkable}
+use Rattle.table.specs.Positions.{each, predOf, predLength, predsIn, predsLength, typeCount, predCount, firstPredAt, diagramOf, Walkable}
+use Rattle.table.specs.Cursors.{Ahead}
 
 -- ---- one number
 
@@ -71,6 +72,36 @@ pub preds-length : (n : ℕ) (s : List ℕ) → length (predsIn n s) ≡ n
 unfolding predsIn
 preds-length zero s = refl
 preds-length (suc n) s = ap suc (preds-length n (drop (predLength s) s))
+
+-- ---- the numbers of the predicates left stand in the table
+
+pub ahead-start : (t : List ℕ) {at n : ℕ} → Walkable t → at ≡ firstPredAt t → n ≡ predCount t → Ahead t at n
+ahead-start t w ea en = record { inside = rw (ea, en) (w .whole) }
+
+ahead-is : (t : List ℕ) (at n : ℕ) → 0 < n
+    → predsLength n (drop at t) ≡ predLength (drop at t) + predsLength (n - 1) (drop (at + predLength (drop at t)) t)
+unfolding predsLength
+ahead-is t at zero h = absurd (omega arith)
+ahead-is t at (suc n) h =
+    let e : n ≡ suc n - 1 = omega arith in
+    ap₂ (λ (m : ℕ) (s : List ℕ). predLength (drop at t) + predsLength m s) e (drop-drop (predLength (drop at t)) at t)
+
+module _ (t : List ℕ) (at n : ℕ) where
+  pub ahead-here : Ahead t at n → 0 < n → at + (4 + 3 * getD (drop at t) 2 0 + 2 * getD (drop at t) 3 0) ≤ length t
+  ahead-here a h = omega (arith, a .inside, ahead-is t at n h)
+
+  -- single numbers of its first line
+  pub ahead-first : Ahead t at n → 0 < n → at + 0 < length t
+  ahead-first a h = omega (arith, ahead-here a h)
+
+  pub ahead-second : Ahead t at n → 0 < n → at + 1 < length t
+  ahead-second a h = omega (arith, ahead-here a h)
+
+  pub ahead-third : Ahead t at n → 0 < n → at + 2 < length t
+  ahead-third a h = omega (arith, ahead-here a h)
+
+  pub ahead-more : {e : ℕ} → Ahead t at n → 0 < n → e ≡ at + predLength (drop at t) → Ahead t e (n - 1)
+  ahead-more a h q = record { inside = rw q (omega (arith, a .inside, ahead-is t at n h)) }
 
 -- ---- the number of roles, and of groups: those counted and those left come to the whole
 

@@ -1,0 +1,20 @@
+-- `limits::types::push_type` meets its contract. Its two limits, one after another.
+-- Assumes nothing.
+use Rattle.limits.proofs.Walked.{type-is}
+use borrow.Author.Needs.{needs}
+use Rattle.limits.proofs.types.push_type.Statement.{statement}
+use Rattle.limits.proofs.types.push_type.Tie as tie
+
+pub push-type-spec : {M : Type 1} → statement M
+push-type-spec =
+    tie.close
+    (tie.spec
+    (λ c κs. search needs)
+    (λ c κs. search needs)
+    (λ c κs. search needs)
+    (λ c κs. search needs)
+    (λ c κs. search needs)
+    (λ c κs. search needs)
+    (λ c κs. search needs)
+    (λ c. search needs)
+    (λ c. search (needs, type-is)))

@@ -1,0 +1,47 @@
+-- The types of all roles, written predicate by predicate: what a turn of the loop writes and what it leaves.
+use Prim.Native.Nat.{ℕ, _+_, _-_, _≤_, _<_}
+use native.Mathlib.Omega.{arith}
+use mathlib.Core.Path.{_≡_, sym, ap, ap₂, _∙_}
+use mathlib.Core.List.{List, [], _++_, flatMap, map-append}
+use lib.ListN.{length, getD, drop, length-map}
+use lib.Seq.{drop-drop}
+use Rattle.orm.specs.Diagram.{Role, Predicate, allRoles}
+use Rattle.buffer.specs.Written.{Writing, Splits}
+use Rattle.buffer.specs.Laws.{writing-start}
+use Rattle.table.specs.Positions.{rolesIn, predsIn, predLength, predCount, firstPredAt, diagramOf}
+use Rattle.table.specs.Laws.Walks.{preds-more, preds-none, ahead-here}
+use Rattle.table.specs.Cursors.{Ahead}
+use Rattle.selection.specs.Selected.{typesOf, Bounded, Types}
+
+abbrev pub typesWithin : List Predicate → List ℕ
+typesWithin ps = typesOf (flatMap (λ (p : Predicate). p .roles) ps)
+
+module _ (t : List ℕ) where
+  pub types-start : (o : List ℕ) (at : ℕ) {p n : ℕ} → p ≡ firstPredAt t → n ≡ predCount t
+      → Writing o at (typesOf (allRoles (diagramOf t))) o at (typesWithin (predsIn n (drop p t)))
+  unfolding allRoles diagramOf
+  types-start o at ep en = rw (ep, en) (writing-start o at (typesOf (allRoles (diagramOf t))))
+
+  module _ (p n : ℕ) where
+    pub roles-bounded : {r : ℕ} → Ahead t p n → 0 < n → r ≡ getD (drop p t) 2 0 → r ≤ 999999 → Bounded t (p + 4) r 0 0
+    roles-bounded {r} a h e k =
+        record { inside = omega (arith, ahead-here t p n a h, e); few = k; set = omega arith; place = omega arith }
+
+    pub types-next : {e r : ℕ} → 0 < n → e ≡ p + predLength (drop p t) → r ≡ getD (drop p t) 2 0
+        → Splits (typesWithin (predsIn n (drop p t))) (typesOf (rolesIn r (drop (p + 4) t))) (typesWithin (predsIn (n - 1) (drop e t)))
+    unfolding flatMap
+    types-next {e} {r} h ee er =
+        let s : List ℕ = drop p t in
+        let rest : List Role = flatMap (λ (q : Predicate). q .roles) (predsIn (n - 1) (drop e t)) in
+        record {
+          is =
+              ap typesWithin (preds-more t p n h ee) ∙ map-append (λ (q : Role). q .type) (rolesIn (getD s 2 0) (drop 4 s)) rest
+              ∙ ap₂ {C = List ℕ} (λ m a. typesOf (rolesIn m a) ++ typesOf rest) (sym er) (drop-drop 4 p t);
+        }
+
+    pub types-end : n ≤ 0 → typesWithin (predsIn n (drop p t)) ≡ []
+    unfolding flatMap
+    types-end h = ap typesWithin (preds-none n (drop p t) h)
+
+pub types-counted : (t types : List ℕ) {n : ℕ} → n ≡ length types → Types t types → n ≡ length (allRoles (diagramOf t))
+types-counted t types e w = e ∙ rw (w .are) (length-map (allRoles (diagramOf t)) (λ (r : Role). r .type))

@@ -1,0 +1,15 @@
+-- `table::number` meets its contract. It is there.
+-- Assumes nothing.
+use Rattle.table.specs.Laws.Walks.{field-here, field-small}
+use borrow.Author.Needs.{needs}
+use Rattle.table.proofs.number.Statement.{statement}
+use Rattle.table.proofs.number.Tie as tie
+
+pub number-spec : {M : Type 1} → statement M
+number-spec =
+    tie.close
+    (tie.spec
+    (λ c. search needs)
+    (λ c. search needs)
+    (λ c. search needs)
+    (λ c. search (needs, field-here, field-small)))

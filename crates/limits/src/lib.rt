@@ -1,15 +1,15 @@
 // From a table that can be walked: the lower and upper bounds of its sets and the limits between them,
 // written into buffers. Limits are written as numbers, as specs/Encoding.antt of lowering says.
-mod bounds;
 mod preds;
+mod ranges;
 mod single;
 mod types;
 
-use crate::bounds::pred_lowers;
-use crate::bounds::pred_uppers;
-use crate::bounds::type_lowers;
-use crate::bounds::type_uppers;
 use crate::preds::push_preds;
+use crate::ranges::pred_lowers;
+use crate::ranges::pred_uppers;
+use crate::ranges::type_lowers;
+use crate::ranges::type_uppers;
 use crate::types::push_types;
 ghost use Rattle.orm.specs.Sets.{lower, upper};
 ghost use Rattle.orm.specs.Sets.{limits};

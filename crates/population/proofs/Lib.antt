@@ -1,5 +1,5 @@
 pub mod TypeLaws
-pub mod Roles
+pub mod RoleLaws
 pub mod ColumnLaws
 pub mod PartLaws
 pub mod Planning

@@ -1,6 +1,5 @@
 // The cells of the predicates: each function prepares one thing more for a predicate and hands all of
 // it on.
-use crate::columns::push_columns;
 use crate::parts::part_sizes;
 use crate::parts::part_space;
 use crate::parts::plan_parts;
@@ -8,6 +7,7 @@ use crate::parts::plan_rows;
 use crate::parts::push_counts;
 use crate::parts::push_grouped;
 use crate::parts::role_space;
+use crate::roles::push_columns;
 use crate::rows::push_rows;
 use crate::types::size;
 ghost use mathlib.Core.Path.{_≡_};

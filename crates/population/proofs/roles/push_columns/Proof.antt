@@ -1,4 +1,4 @@
--- `population::columns::push_columns` meets its contract. The columns of the roles left come to the whole.
+-- `population::roles::push_columns` meets its contract. The columns of the roles left come to the whole.
 -- Assumes nothing.
 use Prim.Native.Nat.{_+_, _*_, _≤_}
 use lib.ListN.{length, drop}
@@ -7,8 +7,8 @@ use Rattle.buffer.specs.Written.{Writing}
 use Rattle.buffer.specs.Laws.{writing-start, writing-more, writing-long}
 use Rattle.population.proofs.ColumnLaws.{columnsFrom, columns-more, columns-all}
 use borrow.Author.Needs.{needs}
-use Rattle.population.proofs.columns.push_columns.Statement.{statement}
-use Rattle.population.proofs.columns.push_columns.Tie as tie
+use Rattle.population.proofs.roles.push_columns.Statement.{statement}
+use Rattle.population.proofs.roles.push_columns.Tie as tie
 
 abbrev Inv-loop : tie.InvT-loop
 Inv-loop t c types roles out₀ left₀ q₀ p₀ to₀ out left q p to = (q + 3 * left ≤ length t) × (p + left ≤ 200000000) × Writing out₀ 0

@@ -1,13 +1,13 @@
--- `population::columns::position` meets its contract. The number of those passed, and the place among those left.
+-- `population::roles::position` meets its contract. The number of those passed, and the place among those left.
 -- Assumes nothing.
 use Prim.Native.Nat.{_+_, _-_, _≤_}
 use mathlib.Core.Path.{_≡_}
 use lib.ListN.{length, drop}
 use Rattle.population.specs.Plan.{position}
-use Rattle.population.proofs.Roles.{position-start, position-here, position-more, position-all}
+use Rattle.population.proofs.RoleLaws.{position-start, position-here, position-more, position-all}
 use borrow.Author.Needs.{needs}
-use Rattle.population.proofs.columns.position.Statement.{statement}
-use Rattle.population.proofs.columns.position.Tie as tie
+use Rattle.population.proofs.roles.position.Statement.{statement}
+use Rattle.population.proofs.roles.position.Tie as tie
 
 abbrev Inv-loop : tie.InvT-loop
 Inv-loop p list i₀ n₀ i n = (i ≤ length list) × (n ≤ i) × (n + position p (drop i list) ≡ position p list)

@@ -1,9 +1,9 @@
--- `limits::bounds::type_upper` meets its contract. Of a subtype it is MAX, of a root the smaller of MAX and the number of its values.
+-- `limits::ranges::type_upper` meets its contract. Of a subtype it is MAX, of a root the smaller of MAX and the number of its values.
 -- Assumes nothing.
 use Rattle.limits.proofs.Starts.{upper-subtype, upper-values, upper-most}
 use borrow.Author.Needs.{needs}
-use Rattle.limits.proofs.bounds.type_upper.Statement.{statement}
-use Rattle.limits.proofs.bounds.type_upper.Tie as tie
+use Rattle.limits.proofs.ranges.type_upper.Statement.{statement}
+use Rattle.limits.proofs.ranges.type_upper.Tie as tie
 
 pub type-upper-spec : {M : Type 1} → statement M
 type-upper-spec =

@@ -1,4 +1,4 @@
--- `limits::bounds::pred_uppers` meets its contract. The bounds of the predicates left come to the whole.
+-- `limits::ranges::pred_uppers` meets its contract. The bounds of the predicates left come to the whole.
 -- Assumes nothing.
 use Prim.Native.Nat.{_+_, _*_, _≤_}
 use mathlib.Core.List.{map}
@@ -11,8 +11,8 @@ use Rattle.buffer.specs.Written.{Writing}
 use Rattle.buffer.specs.Laws.{writing-more, writing-all, writing-long}
 use Rattle.limits.proofs.Columns.{preds-start, preds-next, preds-end}
 use borrow.Author.Needs.{needs}
-use Rattle.limits.proofs.bounds.pred_uppers.Statement.{statement}
-use Rattle.limits.proofs.bounds.pred_uppers.Tie as tie
+use Rattle.limits.proofs.ranges.pred_uppers.Statement.{statement}
+use Rattle.limits.proofs.ranges.pred_uppers.Tie as tie
 
 abbrev Inv-loop : tie.InvT-loop
 Inv-loop t out₀ at left₀ p₀ to₀ out left p to =

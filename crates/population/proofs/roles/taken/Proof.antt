@@ -1,11 +1,11 @@
--- `population::columns::taken` meets its contract. What was taken and what is taken before the role among those left come to the whole.
+-- `population::roles::taken` meets its contract. What was taken and what is taken before the role among those left come to the whole.
 -- Assumes nothing.
 use Prim.Native.Nat.{_+_, _*_, _-_, _≤_}
 use lib.ListN.{length}
-use Rattle.population.proofs.Roles.{Taking, taking-start, taken-here, taken-more, taken-all}
+use Rattle.population.proofs.RoleLaws.{Taking, taking-start, taken-here, taken-more, taken-all}
 use borrow.Author.Needs.{needs}
-use Rattle.population.proofs.columns.taken.Statement.{statement}
-use Rattle.population.proofs.columns.taken.Tie as tie
+use Rattle.population.proofs.roles.taken.Statement.{statement}
+use Rattle.population.proofs.roles.taken.Tie as tie
 
 abbrev Inv-loop : tie.InvT-loop
 Inv-loop types c first number p i₀ set₀ sum₀ i set sum = (i ≤ length types) × (set ≤ 1000000 + i) ×

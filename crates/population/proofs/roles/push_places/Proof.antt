@@ -1,9 +1,9 @@
--- `population::columns::push_places` meets its contract. One after the other.
+-- `population::roles::push_places` meets its contract. One after the other.
 -- Assumes nothing.
 use Rattle.population.proofs.ColumnLaws.{places-is}
 use borrow.Author.Needs.{needs}
-use Rattle.population.proofs.columns.push_places.Statement.{statement}
-use Rattle.population.proofs.columns.push_places.Tie as tie
+use Rattle.population.proofs.roles.push_places.Statement.{statement}
+use Rattle.population.proofs.roles.push_places.Tie as tie
 
 pub push-places-spec : {M : Type 1} → statement M
 push-places-spec =

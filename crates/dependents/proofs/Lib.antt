@@ -1,3 +1,5 @@
 pub mod Walks
+pub mod Left
+pub mod Counts
 pub mod Index
 pub mod Sets

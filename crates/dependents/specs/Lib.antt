@@ -1,2 +1,3 @@
 pub mod Dependents
+pub mod Passes
 pub mod Laws

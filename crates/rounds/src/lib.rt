@@ -57,11 +57,14 @@ fn search_below(lower: &[u32], upper: &[u32]) -> Place
     Place::Nowhere
 }
 
-// The first set whose upper bound is below its lower bound.
+// The first set whose upper bound is below its lower bound. Of few sets it is searched for at once.
 fn first_below(lower: &[u32], upper: &[u32]) -> Place
     requires { ⌜ length (now lower) ≡ length (now upper) ⌝ }
     ensures { λ r. ⌜ r ≡ placeOf (firstBelow 0 (now (lower .entry)) (now (upper .entry))) ⌝ }
 {
+    if lower.len() < 32 {
+        return search_below(lower, upper);
+    }
     if any_below(lower, upper) {
         return search_below(lower, upper);
     }
@@ -183,8 +186,8 @@ fn few_places() -> [usize; 32] {
     [0usize; 32]
 }
 
-fn few_indices() -> [usize; 128] {
-    [0usize; 128]
+fn few_indices() -> [usize; 64] {
+    [0usize; 64]
 }
 
 fn rounds_large(limits: &[u32], lower: &[u32], upper: &mut [u32], next: &mut [u32]) -> Outcome
@@ -311,7 +314,7 @@ pub fn settle_over(limits: &[u32], lower: &[u32], upper: &mut [u32]) -> Outcome
     settle_large(limits, lower, upper)
 }
 
-// The same of few sets, with little scratch; its index has room where the limits are fewer than 128 numbers.
+// The same of few sets, with little scratch. Where their index has no room every round is a full one, as few limits are.
 pub fn settle_few(limits: &[u32], lower: &[u32], upper: &mut [u32]) -> Outcome
     requires { ⌜ Bounds (now lower) (now upper) ⌝ }
     requires { ⌜ length (now upper) < 32 ⌝ }

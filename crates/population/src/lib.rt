@@ -18,23 +18,54 @@ ghost use Rattle.orm.specs.Population.{cells};
 ghost use Rattle.orm.specs.Populate.{population};
 ghost use Rattle.buffer.specs.Written.{Wrote};
 ghost use Rattle.table.specs.Positions.{diagramOf};
+ghost use Rattle.selection.specs.Selected.{Types};
 ghost use Rattle.tuples.specs.Steps.{Small};
 ghost use Rattle.table.specs.Valid.{Valid};
 
+// A call's result is a name in what is to be proved; an array written in place is all its numbers.
 fn type_space() -> [u32; 96] {
     [0u32; 96]
 }
 
-// Writes the cells of the population of a valid table with these sizes of its sets.
-pub fn write_cells(t: &[u32], c: &[u32], out: &mut [u32]) -> usize
+fn few_types() -> [u32; 32] {
+    [0u32; 32]
+}
+
+// The cells, with the types of all roles at hand.
+fn write_typed(t: &[u32], c: &[u32], types: &[u32], out: &mut [u32]) -> usize
+    requires { ⌜ Valid (now t) ⌝ }
+    requires { ⌜ Small (now c) ⌝ }
+    requires { ⌜ Types (now t) (now types) ⌝ }
+    ensures { λ r. ⌜ Wrote (now (out .entry)) 0 (cells (population (diagramOf (now (t .entry))) (now (c .entry)))) (now (out .exit)) r ⌝ }
+{
+    let a = push_types(t, c, out, 0);
+    push_preds(t, c, types, out, a)
+}
+
+// With room for the types of all roles of every diagram.
+fn write_large(t: &[u32], c: &[u32], out: &mut [u32]) -> usize
     requires { ⌜ Valid (now t) ⌝ }
     requires { ⌜ Small (now c) ⌝ }
     ensures { λ r. ⌜ Wrote (now (out .entry)) 0 (cells (population (diagramOf (now (t .entry))) (now (c .entry)))) (now (out .exit)) r ⌝ }
 {
     let mut types = type_space();
     let n = selection::write_types(t, &mut types);
-    let a = push_types(t, c, out, 0);
-    push_preds(t, c, &types[..n], out, a)
+    write_typed(t, c, &types[..n], out)
+}
+
+// Writes the cells of the population of a valid table with these sizes of its sets. Few roles need
+// little room for their types.
+pub fn write_cells(t: &[u32], c: &[u32], out: &mut [u32]) -> usize
+    requires { ⌜ Valid (now t) ⌝ }
+    requires { ⌜ Small (now c) ⌝ }
+    ensures { λ r. ⌜ Wrote (now (out .entry)) 0 (cells (population (diagramOf (now (t .entry))) (now (c .entry)))) (now (out .exit)) r ⌝ }
+{
+    let mut types = few_types();
+    let n = selection::write_types(t, &mut types);
+    if n < 32 {
+        return write_typed(t, c, &types[..n], out);
+    }
+    write_large(t, c, out)
 }
 
 // How many cells `write_cells` writes.

@@ -1,0 +1,21 @@
+-- `population::write_large` meets its contract. The types of all roles have room.
+-- Assumes nothing.
+use Rattle.table.specs.Laws.Valid.{valid-walkable}
+use Rattle.population.proofs.PartLaws.{front-count}
+use Rattle.population.proofs.PredLaws.{types-within, types-listed}
+use borrow.Author.Needs.{needs}
+use Rattle.population.proofs.write_large.Statement.{statement}
+use Rattle.population.proofs.write_large.Tie as tie
+
+pub write-large-spec : {M : Type 1} → statement M
+write-large-spec =
+    tie.close
+    (tie.spec
+    (λ c κs. search needs)
+    (λ c. search needs)
+    (λ c κs. search (needs, valid-walkable))
+    (λ c. search (needs, types-within))
+    (λ c. search (needs, front-count, types-within))
+    (λ c κs. (search needs, (search needs, search (needs, types-listed))))
+    (λ c. search needs)
+    (λ c. search needs))

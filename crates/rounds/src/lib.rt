@@ -186,10 +186,6 @@ fn few_places() -> [usize; 32] {
     [0usize; 32]
 }
 
-fn few_indices() -> [usize; 64] {
-    [0usize; 64]
-}
-
 fn rounds_large(limits: &[u32], lower: &[u32], upper: &mut [u32], next: &mut [u32]) -> Outcome
     requires { ⌜ Stepped (now limits) (now lower) (now upper) (now next) ⌝ }
     ensures { λ r. ⌜ r ≡ outcomeOf (run (decode (now (limits .entry))) (now (lower .entry)) (now (upper .entry))) ⌝ }
@@ -221,7 +217,7 @@ fn rounds_small(limits: &[u32], lower: &[u32], upper: &mut [u32], next: &mut [u3
         ≡ upperOf (run (decode (now (limits .entry))) (now (lower .entry)) (now (upper .entry))) (now (upper .exit)) ⌝ }
 {
     let mut starts = few_places();
-    let mut entries = few_indices();
+    let mut entries = few_places();
     let mut changed = few_places();
     rounds_in(
         limits,

@@ -60,7 +60,7 @@ static const struct row rows[] = {
     {"sample", WRITE, BYTES},  {"full", READ, BYTES},      {"full", CHECK, ROUNDS},     {"full", POPULATE, CELLS},
     {"full", VALIDATE, CELLS}, {"full", WRITE, BYTES},     {"slow", READ, BYTES},       {"slow", CHECK, ROUNDS},
     {"table1", READ, BYTES},   {"table1", POPULATE, CELLS}, {"table1", VALIDATE, CELLS},
-    {"rows", POPULATE, CELLS}, {"rows", VALIDATE, CELLS},
+    {"rows", POPULATE, CELLS}, {"rows", VALIDATE, CELLS},  {"lowered", CHECK, ROUNDS},
 };
 
 enum { ROW_COUNT = sizeof rows / sizeof *rows };

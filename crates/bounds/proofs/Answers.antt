@@ -13,8 +13,9 @@ use Rattle.fixpoint.specs.Limits.{Limit, Verdict, unsatisfiable, fixpoint, run,
 use Rattle.fixpoint.specs.Laws.{run-laws}
 use Rattle.orm.specs.Outcome.{Outcome, refused, accepted, _>>=_, fitted, bufferAfter, Sized, written}
 use Rattle.rounds.specs.declared.Outcome.{Outcome as Ended}
-use Rattle.rounds.specs.declared.Outcome.the-variants.{Refused, Unsatisfiable, Fixpoint}
+use Rattle.rounds.specs.declared.Outcome.the-variants.{Unsatisfiable, Fixpoint}
 use Rattle.rounds.specs.Answer.{outcomeOf, upperOf, Bounds}
+use Rattle.lowering.specs.Encoding.{decode}
 use Rattle.buffer.specs.Written.{Wrote}
 use Rattle.buffer.specs.Laws.{wrote-whole}
 use Rattle.bounds.specs.Answer.{ended, Answered}
@@ -61,18 +62,14 @@ fixpoint-of : (v : Verdict) {r : Ended} {n : ℕ} {u : List ℕ} (u₀ : List �
 fixpoint-of (unsatisfiable s m) u₀ p e eu = let z : _≡_ {A = ℕ} 0 1 = cc in absurd (omega arith)
 fixpoint-of (fixpoint m c) u₀ p e eu = cc
 
-never : (v : Verdict) {r : Ended} → r ≡ Refused → r ≡ outcomeOf v → ⊥
-never (unsatisfiable s m) p e = let z : _≡_ {A = ℕ} 0 1 = cc in omega arith
-never (fixpoint m c) p e = let z : _≡_ {A = ℕ} 0 1 = cc in omega arith
-
 in-range : (xs : List ℕ) (i : ℕ) → 0 < getD xs i 0 → i < length xs
 in-range xs i h = lt-of-not-le λ k. omega (arith, List·getD-eq-default xs 0 {n = i} k)
 
 -- the set of an unsatisfiable end is one of the sets
-pub set-fits : (ls : List Limit) (low up : List ℕ) {r : Ended} {s n : ℕ} → Bounds low up → r ≡ Unsatisfiable s n
-    → r ≡ outcomeOf (run ls low up)
+pub set-fits : (xs low up : List ℕ) {r : Ended} {s n : ℕ} → Bounds xs low up → r ≡ Unsatisfiable s n → r ≡ outcomeOf (run (decode xs) low up)
     → Fits w64 (s + 1)
-set-fits ls low up {s = s} {n = n} b p e =
+set-fits xs low up {s = s} {n = n} b p e =
+    let ls : List Limit = decode xs in
     let below : getD (upperAfter ls up n) s 0 < getD low s 0 =
     run-laws ls low up (b .paired) .at-unsatisfiable (unsatisfiable-of (run ls low up) p e) .first .below in
     record { fits = omega (arith, in-range low s (omega arith), b .paired, b .few) }
@@ -85,6 +82,3 @@ module _ (v : Verdict) {r : Ended} (e : r ≡ outcomeOf v) where
   pub answer-fixpoint : {n : ℕ} (b : List ℕ) {u b′ : List ℕ} {a : CheckAnswer} (u₀ : List ℕ) → r ≡ Fixpoint n → u ≡ upperOf v u₀
       → Answered (ended (fixpoint n u) (length b)) a b b′ → Answered (ended v (length b)) a b b′
   answer-fixpoint b u₀ p eu w = rw (fixpoint-of v u₀ p e eu) w
-
-  pub answer-refused : (b b′ : List ℕ) (a : CheckAnswer) → r ≡ Refused → Answered (ended v (length b)) a b b′
-  answer-refused b b′ a p = absurd (never v p e)

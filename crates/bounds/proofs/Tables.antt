@@ -25,7 +25,8 @@ use Rattle.table.specs.Valid.{Valid}
 use Rattle.table.specs.Laws.Valid.{accepted-valid, valid-walkable}
 use Rattle.lowering.specs.Laws.Decoding.{decode-encode}
 use Rattle.selection.specs.Selected.{typesOf, Types}
-use Rattle.limits.specs.Laws.Room.{lower-length, start-bounds, as-many, limits-fit, lower-fits}
+use Rattle.limits.specs.Laws.Room.{lower-length, as-many, limits-fit, lower-fits}
+use Rattle.limits.specs.Laws.Start.{start-bounds}
 use Rattle.bounds.specs.Answer.{checkOf, ended, Answered, Known, Limits, Lowers, FewLowers, Few}
 use Rattle.bounds.specs.declared.CheckAnswer.{CheckAnswer}
 use Rattle.bounds.specs.declared.CheckAnswer.the-variants.{Refused}
@@ -166,11 +167,12 @@ module _ {t : List ℕ} {roles groups : ℕ} (known : Known t roles groups) wher
       pub upper-within : k ≤ length b′
       upper-within = wrote-within w upper-room
 
-      pub check-bounds : Bounds l (take k b′)
-      check-bounds = rw (low .are, wrote-front w upper-room) (start-bounds (diagramOf t) (v .formed))
+      pub check-bounds : {ls : List ℕ} → Limits t ls → Bounds ls l (take k b′)
+      check-bounds e = rw (e .are, low .are, wrote-front w upper-room) (start-bounds (diagramOf t) (v .formed))
 
       pub few-upper : FewLowers t l → length (take k b′) < 32
-      few-upper few = omega (arith, check-bounds .paired, few .few)
+      few-upper few =
+          omega (arith, ap length (wrote-front w upper-room), ap length (low .are), as-many (diagramOf t) (v .formed), few .few)
 
       pub checked : {ls s s′ : List ℕ} {r : CheckAnswer} → Limits t ls
           → Answered (ended (run (decode ls) l (take k b′)) (length s)) r s s′ → Answered (checkCall t (length s)) r s s′

@@ -10,7 +10,8 @@ use Rattle.orm.specs.Diagram.{Diagram}
 use Rattle.orm.specs.Sets.{upper, limits, verdict}
 use Rattle.orm.specs.WellFormed.{WellFormed}
 use Rattle.orm.specs.Laws.Rounds.{verdict-laws}
-use Rattle.limits.specs.Laws.Room.{upper-fits, start-bounds}
+use Rattle.limits.specs.Laws.Room.{upper-fits}
+use Rattle.limits.specs.Laws.Start.{start-bounds}
 
 module _ (d : Diagram) (w : WellFormed d) {n : ℕ} {c : List ℕ} (e : verdict d ≡ fixpoint n c) where
   solution : Solution (limits d) (upper d) c

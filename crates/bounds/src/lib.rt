@@ -41,7 +41,7 @@ fn fit(result: &[u32], rounds: u32, sizes: &mut [u32]) -> CheckAnswer
 
 // The rounds and their end.
 fn answer(limits: &[u32], lower: &[u32], upper: &mut [u32], sizes: &mut [u32]) -> CheckAnswer
-    requires { ⌜ Bounds (now lower) (now upper) ⌝ }
+    requires { ⌜ Bounds (now limits) (now lower) (now upper) ⌝ }
     ensures { λ r.
         ⌜ Answered (ended (run (decode (now (limits .entry))) (now (lower .entry)) (now (upper .entry))) (length (now (sizes .entry)))) r
         (now (sizes .entry)) (now (sizes .exit)) ⌝ }
@@ -53,7 +53,6 @@ fn answer(limits: &[u32], lower: &[u32], upper: &mut [u32], sizes: &mut [u32]) -
             round,
         },
         rounds::Outcome::Fixpoint { rounds } => fit(upper, rounds, sizes),
-        rounds::Outcome::Refused => CheckAnswer::TooShort { needed: 0 },
     }
 }
 
@@ -78,7 +77,7 @@ fn check_in(
 
 // The rounds of few sets and their end.
 fn answer_few(limits: &[u32], lower: &[u32], upper: &mut [u32], sizes: &mut [u32]) -> CheckAnswer
-    requires { ⌜ Bounds (now lower) (now upper) ⌝ }
+    requires { ⌜ Bounds (now limits) (now lower) (now upper) ⌝ }
     requires { ⌜ length (now upper) < 32 ⌝ }
     ensures { λ r.
         ⌜ Answered (ended (run (decode (now (limits .entry))) (now (lower .entry)) (now (upper .entry))) (length (now (sizes .entry)))) r
@@ -91,7 +90,6 @@ fn answer_few(limits: &[u32], lower: &[u32], upper: &mut [u32], sizes: &mut [u32
             round: n,
         },
         rounds::Outcome::Fixpoint { rounds } => fit(upper, rounds, sizes),
-        rounds::Outcome::Refused => CheckAnswer::TooShort { needed: 0 },
     }
 }
 

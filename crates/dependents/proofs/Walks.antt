@@ -11,9 +11,11 @@ use lib.Seq.{drop-cons}
 use borrow.Author.Tests.{ltb-false, eq-eqb, ne-eqb}
 use Rattle.fixpoint.specs.Limits.{Limit, lowered, loweredBy}
 use Rattle.lowering.specs.Encoding.{limitAt}
+use Rattle.lowering.specs.Closed.{Start, first, behind, Whole, Closed}
 use Rattle.lowering.specs.Laws.Lowered.{length-lowered}
 use Rattle.dependents.specs.Dependents.{operandsAt, has, reads, when, dependentsFrom, dependents, limitsAt}
 use Rattle.dependents.specs.Dependents.{Row, Within}
+use Rattle.dependents.specs.Passes.{At}
 
 -- ---- operands
 
@@ -49,32 +51,34 @@ module _ (xs ps old new₀ : List ℕ) where
   unfolding loweredBy
   using-all i new w h = rw (drop-of-length-le ps h) at w
 
-pub within-here : (xs ps : List ℕ) (i : ℕ) → Within xs ps → i < length ps → getD ps i 0 + 4 ≤ length xs
-within-here xs ps i w h = w .at i h
+pub within-here : (xs : List ℕ) (n : ℕ) (ps : List ℕ) (i : ℕ) → Within xs n ps → i < length ps → Whole xs n (getD ps i 0)
+within-here xs n ps i w h = w .at i h
 
 pub long-step : (old new y : List ℕ) (l : Limit) {x : List ℕ} → x ≡ lowered old l new → length new ≡ length y → length x ≡ length y
 long-step old new y l e h = ap length e ∙ length-lowered old new l ∙ h
 
-within-cons : (xs : List ℕ) (b : Bool) (p : ℕ) (ps : List ℕ) → p + 4 ≤ length xs → Within xs ps → Within xs (when b p ++ ps)
-within-cons xs true p ps h w = record { at = go }
+within-cons : (xs : List ℕ) (n : ℕ) (b : Bool) (p : ℕ) (ps : List ℕ) → Whole xs n p → Within xs n ps → Within xs n (when b p ++ ps)
+within-cons xs n true p ps h w = record { at = go }
   where
-    go : (k : ℕ) → k < length (p ∷ ps) → getD (p ∷ ps) k 0 + 4 ≤ length xs
+    go : (k : ℕ) → k < length (p ∷ ps) → Whole xs n (getD (p ∷ ps) k 0)
     go zero l = h
     go (suc k) l = w .at k (omega arith)
-within-cons xs false p ps h w = w
+within-cons xs n false p ps h w = w
 
-within-from : (xs : List ℕ) (s m at : ℕ) → Within xs (dependentsFrom s m xs at)
+within-from : (xs : List ℕ) (n s m at : ℕ) → Closed xs n → Start xs at → Within xs n (dependentsFrom s m xs at)
 unfolding dependentsFrom
-within-from xs s zero at = record { at = λ k h. absurd (omega arith) }
-within-from xs s (suc m) at = go (ltb (length xs) (at + 4)) refl (within-from xs s m (at + 4 + getD xs (at + 3) 0))
+within-from xs n s zero at c q = record { at = λ k h. absurd (omega arith) }
+within-from xs n s (suc m) at c q = go (ltb (length xs) (at + 4)) refl (within-from xs n s m (at + 4 + getD xs (at + 3) 0) c)
   where
     rest : List ℕ
     rest = dependentsFrom s m xs (at + 4 + getD xs (at + 3) 0)
 
-    go : (b : Bool) → ltb (length xs) (at + 4) ≡ b → Within xs rest
-        → Within xs (elim b as (λ _. List ℕ) [ true ↦ [] | false ↦ when (reads (operandsAt xs at) s) at ++ rest ])
+    go : (b : Bool) → ltb (length xs) (at + 4) ≡ b → (Start xs (at + 4 + getD xs (at + 3) 0) → Within xs n rest)
+        → Within xs n (elim b as (λ _. List ℕ) [ true ↦ [] | false ↦ when (reads (operandsAt xs at) s) at ++ rest ])
     go true t w = record { at = λ k h. absurd (omega arith) }
-    go false t w = within-cons xs (reads (operandsAt xs at) s) at rest (ltb-false (length xs) (at + 4) t) w
+    go false t w =
+        let h : at + 4 ≤ length xs = ltb-false (length xs) (at + 4) t in
+        within-cons xs n (reads (operandsAt xs at) s) at rest (c .whole at q h) (w (behind q h))
 
 module _ (xs starts entries : List ℕ) (s : ℕ) (r : Row xs starts entries s) where
   pub row-ordered : getD starts s 0 ≤ getD starts (s + 1) 0
@@ -83,11 +87,24 @@ module _ (xs starts entries : List ℕ) (s : ℕ) (r : Row xs starts entries s) 
   pub row-within : getD starts (s + 1) 0 ≤ length entries
   row-within = r .within
 
-  pub row-entries : Within xs (take (getD starts (s + 1) 0 - getD starts s 0) (drop (getD starts s 0) entries))
+  pub row-entries : (n : ℕ) → Closed xs n → Within xs n (take (getD starts (s + 1) 0 - getD starts s 0) (drop (getD starts s 0) entries))
   unfolding dependents
-  row-entries = subst⁻¹ (Within xs) (r .is) (within-from xs s (length xs) 0)
+  row-entries n c = subst⁻¹ (Within xs n) (r .is) (within-from xs n s (length xs) 0 c first)
 
   pub row-used : (old new : List ℕ) {new′ : List ℕ}
       → new′ ≡ loweredBy old (limitsAt xs (take (getD starts (s + 1) 0 - getD starts s 0) (drop (getD starts s 0) entries))) new
       → new′ ≡ loweredBy old (limitsAt xs (dependents xs s)) new
   row-used old new e = e ∙ ap (λ (ps : List ℕ). loweredBy old (limitsAt xs ps) new) (r .is)
+
+-- ---- a walk over the limits
+
+module _ (xs : List ℕ) where
+  pub at-first : At xs 0
+  at-first = record { start = first; low = omega arith }
+
+  module _ {p : ℕ} (w : At xs p) (h : p + 4 ≤ length xs) where
+    pub at-room : (n : ℕ) → Closed xs n → p + 4 + getD xs (p + 3) 0 ≤ length xs
+    at-room n c = c .whole p (w .start) h .room
+
+    pub at-next : {k : ℕ} → k ≡ getD xs (p + 3) 0 → k < 4294967296 → At xs (p + 4 + k)
+    at-next e l = record { start = rw e (behind (w .start) h); low = omega arith }

@@ -1,3 +1,6 @@
--- The laws of the bounds and limits of a diagram as numbers: the room that they take, and what they decode to.
+-- The laws of the bounds and limits of a diagram as numbers: the room that they take, what they decode to, that they speak of its
+-- sets alone, and so what the rounds start from.
 pub mod Room
 pub mod Decoded
+pub mod Inside
+pub mod Start

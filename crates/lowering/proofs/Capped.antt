@@ -25,25 +25,17 @@ cut-mul x y = go (decLe 4096 y)
     go (yes h) = past x y h
     go (no h) = ap (λ (n : ℕ). min 4096 (x * n)) (omega arith)
 
-mul-cut : (x y : ℕ) → min 4096 (min 4096 x * y) ≡ min 4096 (x * y)
+pub mul-cut : (x y : ℕ) → min 4096 (min 4096 x * y) ≡ min 4096 (x * y)
 mul-cut x y = rw (mul-comm (min 4096 x) y, mul-comm x y) (cut-mul y x)
-
-pub cut-both : (x y : ℕ) → min 4096 (min 4096 x * min 4096 y) ≡ min 4096 (x * y)
-cut-both x y = mul-cut x (min 4096 y) ∙ cut-mul x y
 
 -- a product of two numbers that are cut fits
 pub small-fits : {x y : ℕ} → x ≤ 4096 → y ≤ 4096 → Fits w32 (x * y)
 small-fits h k = record { fits = omega (arith, mul-le-mul h k) }
 
-swap-last : (p m q : ℕ) → p * m * q ≡ p * q * m
-swap-last p m q = mul-assoc p m q ∙ ap (λ (n : ℕ). p * n) (mul-comm m q) ∙ sym (mul-assoc p q m)
+times-step : (p x q : ℕ) → min 4096 (min 4096 (p * x) * q) ≡ min 4096 (p * (x * q))
+times-step p x q = mul-cut (p * x) q ∙ ap (min 4096) (mul-assoc p x q)
 
-times-step : (p x q : ℕ) → min 4096 (min 4096 (p * min 4096 x) * q) ≡ min 4096 (p * (x * q))
-times-step p x q =
-    mul-cut (p * min 4096 x) q ∙ ap (min 4096) (swap-last p (min 4096 x) q) ∙ cut-mul (p * q) x
-    ∙ ap (min 4096) (swap-last p q x ∙ mul-assoc p x q)
-
-plus-step : (p x q : ℕ) → min 4096 (min 4096 (p + min 4096 x) + q) ≡ min 4096 (p + (x + q))
+plus-step : (p x q : ℕ) → min 4096 (min 4096 (p + x) + q) ≡ min 4096 (p + (x + q))
 plus-step p x q = omega arith
 
 -- `p` is the value so far, and the operands from `i` on are left: together, the whole value
@@ -57,12 +49,12 @@ module _ (old ss : List ℕ) where
   pub timed-none : Timed old ss 1 0
   timed-none = ap (min 4096) (one-mul (productOf old ss))
 
-  -- a turn: `s` is a size, `k` the size cut, and `r` the next value
-  pub timed-more : (p i : ℕ) {s k r : ℕ} → Timed old ss p i → i < length ss → s ≡ getD old (getD ss i 0) 0 → k ≡ min 4096 s
-      → r ≡ min 4096 (p * k) → Timed old ss r (i + 1)
+  -- a turn: `s` is a size, and `r` the next value
+  pub timed-more : (p i : ℕ) {s r : ℕ} → Timed old ss p i → i < length ss → s ≡ getD old (getD ss i 0) 0 → r ≡ min 4096 (p * s)
+      → Timed old ss r (i + 1)
   unfolding productOver
-  timed-more p i w h e f g =
-      rw (g, f, e, add-one) (times-step p (getD old (getD ss i 0) 0) (productOf old (drop (suc i) ss)) ∙ (rw (drop-cons ss i 0 h) at w))
+  timed-more p i w h e g =
+      rw (g, e, add-one) (times-step p (getD old (getD ss i 0) 0) (productOf old (drop (suc i) ss)) ∙ (rw (drop-cons ss i 0 h) at w))
 
   pub timed-all : {p : ℕ} (i : ℕ) → Timed old ss p i → length ss ≤ i → p ≤ 4096 → p ≡ min 4096 (productOf old ss)
   unfolding productOver
@@ -71,11 +63,11 @@ module _ (old ss : List ℕ) where
   pub added-none : Added old ss 0 0
   added-none = omega arith
 
-  pub added-more : (p i : ℕ) {s k r : ℕ} → Added old ss p i → i < length ss → s ≡ getD old (getD ss i 0) 0 → k ≡ min 4096 s
-      → r ≡ min 4096 (p + k) → Added old ss r (i + 1)
+  pub added-more : (p i : ℕ) {s r : ℕ} → Added old ss p i → i < length ss → s ≡ getD old (getD ss i 0) 0 → r ≡ min 4096 (p + s)
+      → Added old ss r (i + 1)
   unfolding sumOver
-  added-more p i w h e f g =
-      rw (g, f, e, add-one) (plus-step p (getD old (getD ss i 0) 0) (sumOf old (drop (suc i) ss)) ∙ (rw (drop-cons ss i 0 h) at w))
+  added-more p i w h e g =
+      rw (g, e, add-one) (plus-step p (getD old (getD ss i 0) 0) (sumOf old (drop (suc i) ss)) ∙ (rw (drop-cons ss i 0 h) at w))
 
   pub added-all : {p : ℕ} (i : ℕ) → Added old ss p i → length ss ≤ i → p ≤ 4096 → p ≡ min 4096 (sumOf old ss)
   unfolding sumOver

@@ -1,18 +1,19 @@
 -- One limit: its value, read from the numbers that encode it, and what it does to the sizes.
-use mathlib.Core.Path.{_≡_, refl, sym, ap, _∙_}
+use mathlib.Core.Path.{_≡_, refl, sym, ap, subst, _∙_}
 use mathlib.Core.List.{List, [], _∷_}
 use Prim.Native.Nat.{ℕ, zero, suc, _+_, _*_, _/_, _-_, _≤_, _<_, min}
+use native.Mathlib.Nat.{div-le-self}
 use native.Mathlib.Omega.{arith}
 use lib.ListN.{length, getD, take, drop, set}
-use lib.Seq.{set-out, set-getD, drop-cons}
+use lib.Seq.{set-getD, drop-cons}
 use borrow.Author.Tests.{ne-eqb, lt-ltb, le-ltb}
 use Rattle.counting.specs.Totals.{productOver}
 use Rattle.fixpoint.specs.Limits.{Limit, valueOf, lowered, loweredBy, round}
 use Rattle.lowering.specs.Sizes.{productOf, sumOf}
-use Rattle.lowering.specs.Laws.Lowered.{part-end}
 use Rattle.lowering.specs.Encoding.{exprOf, limitAt, decodeFrom, decode}
 use Rattle.lowering.specs.Sizes.{Small}
-use Rattle.lowering.proofs.Capped.{cut-both}
+use Rattle.lowering.specs.Closed.{Start, first, behind, Among, Fed, Whole, Closed}
+use Rattle.lowering.proofs.Capped.{mul-cut}
 
 module _ (old ss : List ℕ) (kind factor : ℕ) where
   pub is-product : {r : ℕ} → kind ≡ 0 → r ≡ min 4096 (productOf old ss) → r ≡ min 4096 (valueOf old (exprOf kind factor ss))
@@ -23,22 +24,44 @@ module _ (old ss : List ℕ) (kind factor : ℕ) where
   unfolding exprOf valueOf
   is-sum e h = rw e h
 
-  pub is-times : {s x a b r : ℕ} → kind ≡ 2 → s ≡ getD ss 0 0 → x ≡ getD old s 0 → a ≡ min 4096 factor → b ≡ min 4096 x
-      → r ≡ min 4096 (a * b) → r ≡ min 4096 (valueOf old (exprOf kind factor ss))
+  pub is-times : {x a r : ℕ} → kind ≡ 2 → x ≡ getD old (getD ss 0 0) 0 → a ≡ min 4096 factor → r ≡ min 4096 (a * x)
+      → r ≡ min 4096 (valueOf old (exprOf kind factor ss))
   unfolding exprOf valueOf
-  is-times e es ex ea eb er = rw (er, ea, eb, ex, es, e) (cut-both factor (getD old (getD ss 0 0) 0))
+  is-times e ex ea er = rw (er, ea, ex, e) (mul-cut factor (getD old (getD ss 0 0) 0))
 
-  pub is-quotient : {s x q r : ℕ} → (kind ≡ 0 → ⊥) → (kind ≡ 1 → ⊥) → (kind ≡ 2 → ⊥) → s ≡ getD ss 0 0 → x ≡ getD old s 0 → q ≡ x / factor
-      → r ≡ min 4096 q → r ≡ min 4096 (valueOf old (exprOf kind factor ss))
+  -- a quotient of a size that is at most 4096 needs no cut
+  pub is-quotient : {x r : ℕ} → (kind ≡ 0 → ⊥) → (kind ≡ 1 → ⊥) → (kind ≡ 2 → ⊥) → x ≡ getD old (getD ss 0 0) 0 → x ≤ 4096 → r ≡ x / factor
+      → r ≡ min 4096 (valueOf old (exprOf kind factor ss))
   unfolding exprOf valueOf
-  is-quotient n₀ n₁ n₂ es ex eq er = rw (er, eq, ex, es, ne-eqb kind 0 n₀, ne-eqb kind 1 n₁, ne-eqb kind 2 n₂, exprOf)
+  is-quotient {x} {r} n₀ n₁ n₂ ex h er =
+      let low : r ≡ min 4096 (x / factor) = omega (arith, div-le-self x factor) in
+      rw (ne-eqb kind 0 n₀, ne-eqb kind 1 n₁, ne-eqb kind 2 n₂, exprOf) (low ∙ ap (λ (y : ℕ). min 4096 (y / factor)) ex)
 
-pub value-part : (old xs : List ℕ) (at : ℕ) {e r : ℕ} → at + 4 ≤ length xs → e ≡ min (at + 4 + getD xs (at + 3) 0) (length xs)
+  -- a multiple and a quotient have an operand
+  pub fed-times : Fed (length old) kind ss → kind ≡ 2 → 0 < length ss
+  fed-times w e = w .some (omega arith)
+
+  pub fed-quotient : Fed (length old) kind ss → (kind ≡ 0 → ⊥) → (kind ≡ 1 → ⊥) → 0 < length ss
+  fed-quotient w n₀ n₁ = w .some (omega arith)
+
+  pub fed-among : Fed (length old) kind ss → Among (length old) ss
+  fed-among w = w .among
+
+pub among-at : (n : ℕ) (ss : List ℕ) (k : ℕ) → Among n ss → k < length ss → getD ss k 0 < n
+among-at n ss k w h = w .at k h
+
+pub size-at : (c : List ℕ) {i s : ℕ} → i ≡ s → getD c i 0 ≡ getD c s 0
+size-at c e = ap (λ (k : ℕ). getD c k 0) e
+
+pub small-at : (c : List ℕ) (k : ℕ) → Small c → getD c k 0 ≤ 4096
+small-at c k w = w .at k
+
+pub value-part : (old xs : List ℕ) (at : ℕ) {e r : ℕ} → e ≡ at + 4 + getD xs (at + 3) 0
     → r ≡ min 4096 (valueOf old (exprOf (getD xs at 0) (getD xs (at + 2) 0) (take (e - (at + 4)) (drop (at + 4) xs))))
     → r ≡ min 4096 (valueOf old (limitAt xs at .most))
-value-part old xs at h q ev =
-    ev
-    ∙ ap (λ (ss : List ℕ). min 4096 (valueOf old (exprOf (getD xs at 0) (getD xs (at + 2) 0) ss))) (part-end xs (at + 4) (getD xs (at + 3) 0) h q)
+value-part old xs at {e} q ev =
+    let count : e - (at + 4) ≡ getD xs (at + 3) 0 = omega arith in
+    ev ∙ ap (λ (n : ℕ). min 4096 (valueOf old (exprOf (getD xs at 0) (getD xs (at + 2) 0) (take n (drop (at + 4) xs))))) count
 
 -- ---- a limit that is the size of one set
 
@@ -46,9 +69,21 @@ product-one : (old : List ℕ) (s : ℕ) → productOf old (s ∷ []) ≡ getD o
 unfolding productOver
 product-one old s = omega arith
 
-pub single-value : (old xs : List ℕ) (at : ℕ) {v r : ℕ} → getD xs at 0 ≡ 0 → getD xs (at + 3) 0 ≡ 1 → at + 4 < length xs
-    → v ≡ getD old (getD xs (at + 4) 0) 0 → r ≡ min 4096 v → r ≡ min 4096 (valueOf old (limitAt xs at .most))
-single-value old xs at {v} {r} kind count room ev er =
+-- its operand is there, and one of the sets
+module _ (xs : List ℕ) (n at : ℕ) (w : Whole xs n at) (count : getD xs (at + 3) 0 ≡ 1) where
+  pub single-there : at + 4 < length xs
+  single-there = omega (arith, w .room)
+
+  pub single-set : getD xs (at + 4) 0 < n
+  single-set =
+      let z : at + 4 + 0 ≡ at + 4 = omega arith in
+      subst (λ (i : ℕ). getD xs i 0 < n) z (w .operands 0 (omega arith))
+
+pub single-value : (old xs : List ℕ) (at : ℕ) {r : ℕ} → getD xs at 0 ≡ 0 → getD xs (at + 3) 0 ≡ 1 → Whole xs (length old) at → Small old
+    → r ≡ getD old (getD xs (at + 4) 0) 0 → r ≡ min 4096 (valueOf old (limitAt xs at .most))
+single-value old xs at {r} kind count whole small ev =
+    let room : at + 4 < length xs = single-there xs (length old) at whole count in
+    let er : r ≡ min 4096 r = omega (arith, small .at (getD xs (at + 4) 0)) in
     let s : ℕ = getD xs (at + 4) 0 in
     let one : take (getD xs (at + 3) 0) (drop (at + 4) xs) ≡ s ∷ [] =
     ap (λ (n : ℕ). take n (drop (at + 4) xs)) count ∙ ap (take 1) (drop-cons xs (at + 4) 0 room) in
@@ -68,9 +103,10 @@ module _ (old new : List ℕ) (l : Limit) {t : ℕ} (et : t ≡ l .target) where
       let v-is : getD new t 0 ≡ min (getD new t 0) (valueOf old (l .most)) = omega (arith, small .at t) in
       rw (← et) (sym (set-getD new t 0) ∙ ap (set new t) v-is)
 
-  pub lower-out : length new ≤ t → new ≡ lowered old l new
-  unfolding lowered
-  lower-out h = rw (← et) (sym (set-out new t _ h))
+-- the target of a whole limit is one of the sets
+pub target-there : (xs old new : List ℕ) (at : ℕ) {t : ℕ} → Whole xs (length old) at → length new ≡ length old → t ≡ getD xs (at + 1) 0
+    → t < length new
+target-there xs old new at w e et = omega (arith, w .target)
 
 -- What is left to do from the index `at` on
 abbrev pub restOf : List ℕ → List ℕ → ℕ → ℕ → List ℕ → List ℕ
@@ -93,11 +129,12 @@ pub record Left (limits old : List ℕ) (at : ℕ) (new goal : List ℕ) : Type 
   pub most : ℕ
   pub enough : length limits ≤ at + most
   pub rest : restOf limits old most at new ≡ goal
+  pub start : Start limits at
 
 module _ (limits old : List ℕ) where
   pub left-start : {new : List ℕ} → new ≡ old → Left limits old 0 new (round (decode limits) old)
   unfolding round decode
-  left-start e = record { most = length limits; enough = omega arith; rest = ap (loweredBy old (decodeFrom (length limits) limits 0)) e }
+  left-start e = record { most = length limits; enough = omega arith; rest = ap (loweredBy old (decodeFrom (length limits) limits 0)) e; start = first }
 
   pub left-more : (at : ℕ) (new goal : List ℕ) {n : ℕ} {new′ : List ℕ} → Left limits old at new goal → at + 4 ≤ length limits
       → n ≡ getD limits (at + 3) 0 → new′ ≡ lowered old (limitAt limits at) new → Left limits old (at + 4 + n) new′ goal
@@ -105,7 +142,16 @@ module _ (limits old : List ℕ) where
     where
       go : (m : ℕ) → length limits ≤ at + m → restOf limits old m at new ≡ goal → Left limits old (at + 4 + n) new′ goal
       go zero k r = absurd (omega arith)
-      go (suc m) k r = record { most = m; enough = omega arith; rest = rw (en, e) (sym (rest-more limits old m at new h) ∙ r) }
+      go (suc m) k r = record {
+        most = m;
+        enough = omega arith;
+        rest = rw (en, e) (sym (rest-more limits old m at new h) ∙ r);
+        start = rw en (behind (w .start) h);
+      }
 
   pub left-none : (at : ℕ) (new goal : List ℕ) → Left limits old at new goal → length limits < at + 4 → new ≡ goal
   left-none at new goal w h = sym (rest-none limits old (w .most) at new h) ∙ w .rest
+
+  pub left-whole : (at : ℕ) (new goal : List ℕ) → Left limits old at new goal → Closed limits (length old) → at + 4 ≤ length limits
+      → Whole limits (length old) at
+  left-whole at new goal w c h = c .whole at (w .start) h

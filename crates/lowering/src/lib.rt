@@ -1,11 +1,13 @@
 // Limits of sizes, as numbers: their values, cut at 4096, and a round, in which every limit is put to
-// use at the old sizes. Limits stand in a slice of numbers, as specs/Encoding.antt says.
+// use at the old sizes. Limits stand in a slice of numbers, as specs/Encoding.antt says; they are whole
+// (specs/Closed.antt), so that nothing is tested where they are read.
 ghost use mathlib.Core.Path.{_≡_};
 ghost use Prim.Native.Nat.{_+_, _≤_, _<_, _/_, min};
 ghost use lib.ListN.{length, getD};
 ghost use Rattle.fixpoint.specs.Limits.{valueOf, lowered, round};
 ghost use Rattle.lowering.specs.Sizes.{productOf, sumOf, Small};
 ghost use Rattle.lowering.specs.Encoding.{exprOf, limitAt, decode};
+ghost use Rattle.lowering.specs.Closed.{Among, Fed, Whole, Closed};
 
 // A cast of an element; callers learn the bound too.
 pub fn index(x: u32) -> usize
@@ -22,39 +24,51 @@ fn cut(x: u32) -> u32
     if x < 4096 { x } else { 4096 }
 }
 
-// The size of set s; 0 of a set that is not there.
+// The size of set s.
 fn size(sizes: &[u32], s: u32) -> u32
+    requires { ⌜ s < length (now sizes) ⌝ }
+    requires { ⌜ Small (now sizes) ⌝ }
     ensures { λ r. ⌜ r ≡ getD (now (sizes .entry)) s 0 ⌝ }
+    ensures { λ r. ⌜ r ≤ 4096 ⌝ }
 {
     let i = index(s);
-    if i < sizes.len() { sizes[i] } else { 0 }
+    sizes[i]
 }
 
-fn first(operands: &[u32]) -> u32
-    ensures { λ r. ⌜ r ≡ getD (now (operands .entry)) 0 0 ⌝ }
+// The size of the first operand.
+fn first_size(operands: &[u32], old: &[u32]) -> u32
+    requires { ⌜ 0 < length (now operands) ⌝ }
+    requires { ⌜ Among (length (now old)) (now operands) ⌝ }
+    requires { ⌜ Small (now old) ⌝ }
+    ensures { λ r. ⌜ r ≡ getD (now (old .entry)) (getD (now (operands .entry)) 0 0) 0 ⌝ }
+    ensures { λ r. ⌜ r ≤ 4096 ⌝ }
 {
-    if 0 < operands.len() { operands[0] } else { 0 }
+    size(old, operands[0])
 }
 
 fn product(operands: &[u32], old: &[u32]) -> u32
+    requires { ⌜ Among (length (now old)) (now operands) ⌝ }
+    requires { ⌜ Small (now old) ⌝ }
     ensures { λ r. ⌜ r ≡ min 4096 (productOf (now (old .entry)) (now (operands .entry))) ⌝ }
 {
     let mut p: u32 = 1;
     let mut i = 0;
     while i < operands.len() {
-        p = cut(p * cut(size(old, operands[i])));
+        p = cut(p * size(old, operands[i]));
         i += 1;
     }
     p
 }
 
 fn sum(operands: &[u32], old: &[u32]) -> u32
+    requires { ⌜ Among (length (now old)) (now operands) ⌝ }
+    requires { ⌜ Small (now old) ⌝ }
     ensures { λ r. ⌜ r ≡ min 4096 (sumOf (now (old .entry)) (now (operands .entry))) ⌝ }
 {
     let mut p: u32 = 0;
     let mut i = 0;
     while i < operands.len() {
-        p = cut(p + cut(size(old, operands[i])));
+        p = cut(p + size(old, operands[i]));
         i += 1;
     }
     p
@@ -77,31 +91,29 @@ fn quotient(x: u32, k: u32) -> u32
 
 // The value of an expression at the old sizes, cut at 4096.
 fn value(kind: u32, factor: u32, operands: &[u32], old: &[u32]) -> u32
+    requires { ⌜ Fed (length (now old)) kind (now operands) ⌝ }
+    requires { ⌜ Small (now old) ⌝ }
     ensures { λ r. ⌜ r ≡ min 4096 (valueOf (now (old .entry)) (exprOf kind factor (now (operands .entry)))) ⌝ }
 {
     match kind {
         0 => product(operands, old),
         1 => sum(operands, old),
-        2 => cut(cut(factor) * cut(size(old, first(operands)))),
-        _ => cut(quotient(size(old, first(operands)), factor)),
+        2 => cut(cut(factor) * first_size(operands, old)),
+        _ => quotient(first_size(operands, old), factor),
     }
 }
 
 // Where the operands of the limit at `at` end.
 pub fn end_of(limits: &[u32], at: usize) -> usize
-    requires { ⌜ at + 4 ≤ length (now limits) ⌝ }
-    ensures { λ r. ⌜ r ≡ min (at + 4 + getD (now (limits .entry)) (at + 3) 0) (length (now (limits .entry))) ⌝ }
+    requires { ⌜ at + 4 + getD (now limits) (at + 3) 0 ≤ length (now limits) ⌝ }
+    ensures { λ r. ⌜ r ≡ at + 4 + getD (now (limits .entry)) (at + 3) 0 ⌝ }
 {
-    let end = at + 4 + index(limits[at + 3]);
-    if end < limits.len() {
-        end
-    } else {
-        limits.len()
-    }
+    at + 4 + index(limits[at + 3])
 }
 
 fn value_of(limits: &[u32], at: usize, old: &[u32]) -> u32
-    requires { ⌜ at + 4 ≤ length (now limits) ⌝ }
+    requires { ⌜ Whole (now limits) (length (now old)) at ⌝ }
+    requires { ⌜ Small (now old) ⌝ }
     ensures { λ r. ⌜ r ≡ min 4096 (valueOf (now (old .entry)) (limitAt (now (limits .entry)) at .most)) ⌝ }
 {
     let start = at + 4;
@@ -109,9 +121,20 @@ fn value_of(limits: &[u32], at: usize, old: &[u32]) -> u32
     value(limits[at], limits[at + 2], &limits[start..end], old)
 }
 
+// The size of the operand of the limit at `at`, which has one.
+fn operand_size(limits: &[u32], at: usize, old: &[u32]) -> u32
+    requires { ⌜ Whole (now limits) (length (now old)) at ⌝ }
+    requires { ⌜ getD (now limits) (at + 3) 0 ≡ 1 ⌝ }
+    requires { ⌜ Small (now old) ⌝ }
+    ensures { λ r. ⌜ r ≡ getD (now (old .entry)) (getD (now (limits .entry)) (at + 4) 0) 0 ⌝ }
+{
+    size(old, limits[at + 4])
+}
+
 // Most limits are the size of one set, which is read off at once.
 fn value_at(limits: &[u32], at: usize, old: &[u32]) -> u32
-    requires { ⌜ at + 4 ≤ length (now limits) ⌝ }
+    requires { ⌜ Whole (now limits) (length (now old)) at ⌝ }
+    requires { ⌜ Small (now old) ⌝ }
     ensures { λ r. ⌜ r ≡ min 4096 (valueOf (now (old .entry)) (limitAt (now (limits .entry)) at .most)) ⌝ }
 {
     if limits[at] != 0 {
@@ -120,28 +143,25 @@ fn value_at(limits: &[u32], at: usize, old: &[u32]) -> u32
     if limits[at + 3] != 1 {
         return value_of(limits, at, old);
     }
-    if limits.len() <= at + 4 {
-        return value_of(limits, at, old);
-    }
-    cut(size(old, limits[at + 4]))
+    operand_size(limits, at, old)
 }
 
 // Puts the limit at `at` to use.
 pub fn lower_by(limits: &[u32], at: usize, old: &[u32], new: &mut [u32])
-    requires { ⌜ at + 4 ≤ length (now limits) ⌝ }
+    requires { ⌜ Whole (now limits) (length (now old)) at ⌝ }
+    requires { ⌜ length (now new) ≡ length (now old) ⌝ }
+    requires { ⌜ Small (now old) ⌝ }
     requires { ⌜ Small (now new) ⌝ }
     ensures { λ _. ⌜ now (new .exit) ≡ lowered (now (old .entry)) (limitAt (now (limits .entry)) at) (now (new .entry)) ⌝ }
 {
     let target = index(limits[at + 1]);
-    if target < new.len() {
-        let v = value_at(limits, at, old);
-        if v < new[target] {
-            new[target] = v;
-        }
+    let v = value_at(limits, at, old);
+    if v < new[target] {
+        new[target] = v;
     }
 }
 
-pub fn copy(src: &[u32], dst: &mut [u32])
+fn copy(src: &[u32], dst: &mut [u32])
     requires { ⌜ length (now src) ≡ length (now dst) ⌝ }
     ensures { λ _. ⌜ now (dst .exit) ≡ now (src .entry) ⌝ }
 {
@@ -156,6 +176,7 @@ pub fn copy(src: &[u32], dst: &mut [u32])
 pub fn round(limits: &[u32], old: &[u32], new: &mut [u32])
     requires { ⌜ length (now old) ≡ length (now new) ⌝ }
     requires { ⌜ Small (now old) ⌝ }
+    requires { ⌜ Closed (now limits) (length (now old)) ⌝ }
     ensures { λ _. ⌜ now (new .exit) ≡ round (decode (now (limits .entry))) (now (old .entry)) ⌝ }
 {
     copy(old, new);

@@ -19,6 +19,7 @@ use Rattle.fixpoint.specs.Laws.Round.{round-≼}
 use Rattle.fixpoint.specs.Laws.Tests.{Found, firstBelow-found, slack-less}
 use Rattle.lowering.specs.Sizes.{Small}
 use Rattle.lowering.specs.Encoding.{decode}
+use Rattle.lowering.specs.Closed.{Closed}
 use Rattle.dependents.specs.Dependents.{Indexed, Known}
 use Rattle.rounds.specs.declared.Place.{Place}
 use Rattle.rounds.specs.declared.Place.the-variants.{At, Nowhere}
@@ -66,8 +67,8 @@ module _ (ls : List Limit) (lower start : List ℕ) where
   unfolding run
   begin e = record { fuel = suc (slack lower start); enough = omega arith; counted = omega arith; rest = sym (rw (e, run)) }
 
-  fits : (n : ℕ) (c : List ℕ) → Running ls lower start n c → Bounds lower start → Fits w32 (n + 1)
-  fits n c w h = record { fits = omega (arith, w .counted, h .few, slack-small lower start (h .small)) }
+  fits : (xs : List ℕ) (n : ℕ) (c : List ℕ) → Running ls lower start n c → Bounds xs lower start → Fits w32 (n + 1)
+  fits xs n c w h = record { fits = omega (arith, w .counted, h .few, slack-small lower start (h .small)) }
 
   -- A turn from `c` to `c′`, in which the search has answered `r`
   module _ (n : ℕ) (c c′ : List ℕ) {r : Place} (w : Running ls lower start n c) (ec : c′ ≡ round ls c) where
@@ -112,7 +113,7 @@ module _ (ls : List Limit) (lower start : List ℕ) where
 -- ---- the loop: after `n` rounds the sizes are `c`, `c′` is what the next round makes of them, and the index is as at the start
 
 pub record Turning (b : Bool) (xs lower starts entries start : List ℕ) (n : ℕ) (c c′ : List ℕ) : Type 0 where
-  pub bounds : Bounds lower start
+  pub bounds : Bounds xs lower start
   pub running : Running (decode xs) lower start n c
   pub known : Known b xs starts entries c c′
   pub long : length c ≡ length start
@@ -126,7 +127,7 @@ module _ (b : Bool) (xs lower starts entries start : List ℕ) where
     turn-paired = w .bounds .paired ∙ sym (w .long) ∙ sym (ap length (w .known .made) ∙ round-≼ (decode xs) c .sized)
 
     pub count-fits : Fits w32 (n + 1)
-    count-fits = fits (decode xs) lower start n c (w .running) (w .bounds)
+    count-fits = fits (decode xs) lower start xs n c (w .running) (w .bounds)
 
     module _ {r : Place} (q : r ≡ placeOf (firstBelow 0 lower c′)) where
       pub below-outcome : (s : ℕ) → r ≡ At s → Unsatisfiable s (n + 1) ≡ outcomeOf (run (decode xs) lower start)
@@ -169,6 +170,7 @@ module _ (b : Bool) (xs lower starts entries start : List ℕ) where
                 sets = omega (arith, w .known .sets);
                 made = e ∙ ap (round (decode xs)) (sym ex);
                 small = subst⁻¹ Small e (round-small (decode xs) c′ (w .known .small));
+                closed = subst⁻¹ (Closed xs) long (w .known .closed);
               };
               long = ap length ex ∙ sized ∙ w .long;
             }
@@ -176,17 +178,17 @@ module _ (b : Bool) (xs lower starts entries start : List ℕ) where
 -- ---- the start
 
 module _ (xs lower upper : List ℕ) where
-  pub start-ready : {r : Place} → Bounds lower upper → r ≡ placeOf (firstBelow 0 lower upper) → r ≡ Nowhere → Ready lower upper
+  pub start-ready : {r : Place} → Bounds xs lower upper → r ≡ placeOf (firstBelow 0 lower upper) → r ≡ Nowhere → Ready xs lower upper
   start-ready h q p = record { bounds = h; above = none-of (firstBelow 0 lower upper) p q }
 
-  pub ready-stepped : {x : List ℕ} → Ready lower upper → x ≡ round (decode xs) upper → Stepped xs lower upper x
+  pub ready-stepped : {x : List ℕ} → Ready xs lower upper → x ≡ round (decode xs) upper → Stepped xs lower upper x
   ready-stepped h e = record { ready = h; made = e }
 
   pub same-round : {x : List ℕ} {b : Bool} → x ≡ round (decode xs) upper → b ≡ same x upper → b ≡ same (round (decode xs) upper) upper
   same-round e h = h ∙ ap (λ (c : List ℕ). same c upper) e
 
   -- the first round has changed nothing
-  module _ {b : Bool} (h : Ready lower upper) (e : b ≡ same (round (decode xs) upper) upper) (t : b ≡ true) where
+  module _ {b : Bool} (h : Ready xs lower upper) (e : b ≡ same (round (decode xs) upper) upper) (t : b ≡ true) where
     first-is : run (decode xs) lower upper ≡ fixpoint 1 upper
     first-is =
         let s : round (decode xs) upper ≡ upper = same-decides .iff (round (decode xs) upper) upper .0 (sym e ∙ t) in
@@ -217,5 +219,6 @@ step-started xs lower starts entries upper next w s i e =
         sets = omega arith;
         made = w .made;
         small = subst⁻¹ Small (w .made) (round-small (decode xs) upper (w .ready .bounds .small));
+        closed = subst⁻¹ (Closed xs) long (w .ready .bounds .closed);
       };
     }

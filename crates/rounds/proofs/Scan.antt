@@ -9,11 +9,11 @@ use lib.Dec.{ltb}
 use native.Mathlib.Omega.{arith}
 use lib.ListN.{length, getD, drop, drop-of-length-le}
 use lib.Seq.{drop-cons}
-use borrow.Author.Tests.{lt-ltb, le-ltb, eq-eqb, ne-eqb, le-leb, lt-leb}
+use borrow.Author.Tests.{lt-ltb, le-ltb, eq-eqb, ne-eqb}
 use Rattle.counting.specs.Lists.{same}
 use Rattle.fixpoint.specs.Limits.{firstBelow}
 use Rattle.rounds.specs.declared.Place.the-variants.{At, Nowhere}
-use Rattle.rounds.specs.Answer.{placeOf, orBelow, anyBelow, allSmall}
+use Rattle.rounds.specs.Answer.{placeOf, orBelow, anyBelow}
 
 module _ (f c : List ℕ) (i : ℕ) where
   abbrev pub Below : Type 0
@@ -101,19 +101,3 @@ module _ (a b : List ℕ) (i : ℕ) where
 pub same-more : (a b : List ℕ) (i : ℕ) → Same a b i → i < length a → i < length b → getD a i 0 ≡ getD b i 0 → Same a b (i + 1)
 unfolding same
 same-more a b i w ha hb h = rw add-one (rw (drop-cons a i 0 ha, drop-cons b i 0 hb, eq-eqb (getD a i 0) (getD b i 0) h) at w)
-
-module _ (c : List ℕ) (i : ℕ) where
-  abbrev pub Smalls : Type 0
-  Smalls = allSmall (drop i c) ≡ allSmall c
-
-  pub smalls-not : Smalls → i < length c → 4096 < getD c i 0 → false ≡ allSmall c
-  unfolding allSmall
-  smalls-not w h k = rw (drop-cons c i 0 h, lt-leb (getD c i 0) 4096 k) at w
-
-  pub smalls-all : Smalls → length c ≤ i → true ≡ allSmall c
-  unfolding allSmall
-  smalls-all w h = rw (drop-of-length-le c h) at w
-
-pub smalls-more : (c : List ℕ) (i : ℕ) → Smalls c i → i < length c → getD c i 0 ≤ 4096 → Smalls c (i + 1)
-unfolding allSmall
-smalls-more c i w h k = rw add-one (rw (drop-cons c i 0 h, le-leb (getD c i 0) 4096 k) at w)

@@ -7,8 +7,9 @@ ghost use Rattle.fixpoint.specs.Limits.{round, firstBelow, run};
 ghost use Rattle.counting.specs.Lists.{same};
 ghost use Rattle.lowering.specs.Encoding.{decode};
 ghost use Rattle.lowering.specs.Sizes.{Small};
+ghost use Rattle.lowering.specs.Closed.{Closed};
 ghost use Rattle.rounds.specs.Answer.{placeOf, outcomeOf, upperOf, Bounds, Ready, Stepped, Started};
-ghost use Rattle.rounds.specs.Answer.{orBelow, anyBelow, allSmall, taken, whenTaken, keptUnless};
+ghost use Rattle.rounds.specs.Answer.{orBelow, anyBelow};
 
 // A set, or none.
 enum Place {
@@ -16,9 +17,8 @@ enum Place {
     Nowhere,
 }
 
-// How a run ends. A refused call, and an unsatisfiable one, write nothing.
+// How a run ends.
 pub enum Outcome {
-    Refused,
     Unsatisfiable { set: usize, round: u32 },
     Fixpoint { rounds: u32 },
 }
@@ -85,20 +85,6 @@ fn same(a: &[u32], b: &[u32]) -> bool
         i += 1;
     }
     if i < b.len() { false } else { true }
-}
-
-// Every size is at most 4096.
-fn all_small(sizes: &[u32]) -> bool
-    ensures { λ r. ⌜ r ≡ allSmall (now (sizes .entry)) ⌝ }
-{
-    let mut i = 0;
-    while i < sizes.len() {
-        if 4096 < sizes[i] {
-            return false;
-        }
-        i += 1;
-    }
-    true
 }
 
 // The rounds from the upper bounds `upper`, none of which is below its lower bound; `next` is what a
@@ -234,6 +220,7 @@ fn rounds_small(limits: &[u32], lower: &[u32], upper: &mut [u32], next: &mut [u3
 fn first_round(limits: &[u32], upper: &[u32], next: &mut [u32]) -> bool
     requires { ⌜ length (now upper) ≡ length (now next) ⌝ }
     requires { ⌜ Small (now upper) ⌝ }
+    requires { ⌜ Closed (now limits) (length (now upper)) ⌝ }
     ensures { λ r. ⌜ r ≡ same (round (decode (now (limits .entry))) (now (upper .entry))) (now (upper .entry)) ⌝ }
     ensures { λ _. ⌜ now (next .exit) ≡ round (decode (now (limits .entry))) (now (upper .entry)) ⌝ }
 {
@@ -242,7 +229,7 @@ fn first_round(limits: &[u32], upper: &[u32], next: &mut [u32]) -> bool
 }
 
 fn start_large(limits: &[u32], lower: &[u32], upper: &mut [u32], next: &mut [u32]) -> Outcome
-    requires { ⌜ Ready (now lower) (now upper) ⌝ }
+    requires { ⌜ Ready (now limits) (now lower) (now upper) ⌝ }
     requires { ⌜ length (now upper) ≡ length (now next) ⌝ }
     ensures { λ r. ⌜ r ≡ outcomeOf (run (decode (now (limits .entry))) (now (lower .entry)) (now (upper .entry))) ⌝ }
     ensures { λ _.
@@ -256,7 +243,7 @@ fn start_large(limits: &[u32], lower: &[u32], upper: &mut [u32], next: &mut [u32
 }
 
 fn start_small(limits: &[u32], lower: &[u32], upper: &mut [u32], next: &mut [u32]) -> Outcome
-    requires { ⌜ Ready (now lower) (now upper) ⌝ }
+    requires { ⌜ Ready (now limits) (now lower) (now upper) ⌝ }
     requires { ⌜ length (now upper) ≡ length (now next) ⌝ }
     requires { ⌜ length (now upper) < 32 ⌝ }
     ensures { λ r. ⌜ r ≡ outcomeOf (run (decode (now (limits .entry))) (now (lower .entry)) (now (upper .entry))) ⌝ }
@@ -271,7 +258,7 @@ fn start_small(limits: &[u32], lower: &[u32], upper: &mut [u32], next: &mut [u32
 }
 
 fn settle_large(limits: &[u32], lower: &[u32], upper: &mut [u32]) -> Outcome
-    requires { ⌜ Ready (now lower) (now upper) ⌝ }
+    requires { ⌜ Ready (now limits) (now lower) (now upper) ⌝ }
     ensures { λ r. ⌜ r ≡ outcomeOf (run (decode (now (limits .entry))) (now (lower .entry)) (now (upper .entry))) ⌝ }
     ensures { λ _.
         ⌜ now (upper .exit)
@@ -283,7 +270,7 @@ fn settle_large(limits: &[u32], lower: &[u32], upper: &mut [u32]) -> Outcome
 }
 
 fn settle_small(limits: &[u32], lower: &[u32], upper: &mut [u32]) -> Outcome
-    requires { ⌜ Ready (now lower) (now upper) ⌝ }
+    requires { ⌜ Ready (now limits) (now lower) (now upper) ⌝ }
     requires { ⌜ length (now upper) < 32 ⌝ }
     ensures { λ r. ⌜ r ≡ outcomeOf (run (decode (now (limits .entry))) (now (lower .entry)) (now (upper .entry))) ⌝ }
     ensures { λ _.
@@ -298,7 +285,7 @@ fn settle_small(limits: &[u32], lower: &[u32], upper: &mut [u32]) -> Outcome
 // The rounds from the upper bounds `upper`, where the bounds are known to be taken. At a fixpoint
 // `upper` holds it; where there is none it may have been lowered.
 pub fn settle_over(limits: &[u32], lower: &[u32], upper: &mut [u32]) -> Outcome
-    requires { ⌜ Bounds (now lower) (now upper) ⌝ }
+    requires { ⌜ Bounds (now limits) (now lower) (now upper) ⌝ }
     ensures { λ r. ⌜ r ≡ outcomeOf (run (decode (now (limits .entry))) (now (lower .entry)) (now (upper .entry))) ⌝ }
     ensures { λ _.
         ⌜ now (upper .exit)
@@ -312,7 +299,7 @@ pub fn settle_over(limits: &[u32], lower: &[u32], upper: &mut [u32]) -> Outcome
 
 // The same of few sets, with little scratch. Where their index has no room every round is a full one, as few limits are.
 pub fn settle_few(limits: &[u32], lower: &[u32], upper: &mut [u32]) -> Outcome
-    requires { ⌜ Bounds (now lower) (now upper) ⌝ }
+    requires { ⌜ Bounds (now limits) (now lower) (now upper) ⌝ }
     requires { ⌜ length (now upper) < 32 ⌝ }
     ensures { λ r. ⌜ r ≡ outcomeOf (run (decode (now (limits .entry))) (now (lower .entry)) (now (upper .entry))) ⌝ }
     ensures { λ _.
@@ -323,62 +310,4 @@ pub fn settle_few(limits: &[u32], lower: &[u32], upper: &mut [u32]) -> Outcome
         return Outcome::Unsatisfiable { set, round: 0 };
     }
     settle_small(limits, lower, upper)
-}
-
-// The same on a copy, which is scratch, with `upper` written at a fixpoint alone.
-fn settle_in(limits: &[u32], lower: &[u32], upper: &mut [u32], current: &mut [u32]) -> Outcome
-    requires { ⌜ Bounds (now lower) (now upper) ⌝ }
-    requires { ⌜ length (now current) ≡ length (now upper) ⌝ }
-    ensures { λ r. ⌜ r ≡ outcomeOf (run (decode (now (limits .entry))) (now (lower .entry)) (now (upper .entry))) ⌝ }
-    ensures { λ _.
-        ⌜ now (upper .exit)
-        ≡ upperOf (run (decode (now (limits .entry))) (now (lower .entry)) (now (upper .entry))) (now (upper .entry)) ⌝ }
-{
-    lowering::copy(upper, current);
-    let outcome = settle_over(limits, lower, current);
-    match outcome {
-        Outcome::Fixpoint { rounds: _ } => {
-            lowering::copy(current, upper);
-            outcome
-        }
-        Outcome::Unsatisfiable { set: _, round: _ } => outcome,
-        Outcome::Refused => outcome,
-    }
-}
-
-// The same with scratch of its own.
-pub fn settle(limits: &[u32], lower: &[u32], upper: &mut [u32]) -> Outcome
-    requires { ⌜ Bounds (now lower) (now upper) ⌝ }
-    ensures { λ r. ⌜ r ≡ outcomeOf (run (decode (now (limits .entry))) (now (lower .entry)) (now (upper .entry))) ⌝ }
-    ensures { λ _.
-        ⌜ now (upper .exit)
-        ≡ upperOf (run (decode (now (limits .entry))) (now (lower .entry)) (now (upper .entry))) (now (upper .entry)) ⌝ }
-{
-    let n = upper.len();
-    let mut current = sizes();
-    settle_in(limits, lower, upper, &mut current[..n])
-}
-
-// Lowers the upper bounds to the fixpoint of the limits. Refused are upper bounds above 4096, more
-// than 208 of them, and lower bounds that are more or fewer than they are.
-pub fn run(limits: &[u32], lower: &[u32], upper: &mut [u32]) -> Outcome
-    ensures { λ r.
-        ⌜ r
-        ≡ whenTaken (taken (now (lower .entry)) (now (upper .entry)))
-        (outcomeOf (run (decode (now (limits .entry))) (now (lower .entry)) (now (upper .entry)))) ⌝ }
-    ensures { λ _.
-        ⌜ now (upper .exit)
-        ≡ keptUnless (taken (now (lower .entry)) (now (upper .entry)))
-        (upperOf (run (decode (now (limits .entry))) (now (lower .entry)) (now (upper .entry))) (now (upper .entry))) (now (upper .entry)) ⌝ }
-{
-    if lower.len() != upper.len() {
-        return Outcome::Refused;
-    }
-    if 208 < upper.len() {
-        return Outcome::Refused;
-    }
-    if !all_small(upper) {
-        return Outcome::Refused;
-    }
-    settle(limits, lower, upper)
 }

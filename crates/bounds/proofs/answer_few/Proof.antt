@@ -1,6 +1,6 @@
 -- `bounds::answer_few` meets its contract. The outcome says which verdict the rounds came to.
 -- Assumes nothing.
-use Rattle.bounds.proofs.Answers.{set-fits, answer-unsatisfiable, answer-fixpoint, answer-refused}
+use Rattle.bounds.proofs.Answers.{set-fits, answer-unsatisfiable, answer-fixpoint}
 use borrow.Author.Needs.{needs}
 use Rattle.bounds.proofs.answer_few.Statement.{statement}
 use Rattle.bounds.proofs.answer_few.Tie as tie
@@ -15,10 +15,7 @@ answer-few-spec =
     (λ c. search needs)
     (λ c κs. search needs)
     (λ c. search needs)
-    (λ c. search needs)
     (λ c. search (needs, answer-unsatisfiable))
     (λ c. search needs)
     (λ c. search needs)
-    (λ c. search (needs, answer-fixpoint))
-    (λ c. search needs)
-    (λ c. search (needs, answer-refused)))
+    (λ c. search (needs, answer-fixpoint)))

@@ -18,7 +18,6 @@ use Rattle.orm.specs.Sets.{firstPred, firstRole, firstGroup, lower, upper, uppe
 use Rattle.orm.specs.Sets.{placedFrom, placed, groupSet, groupRoles, Part, groupPart, rolePart, parts, atMost, onlyIf, limitsOfRole}
 use Rattle.orm.specs.Sets.{limitsOfGroup, limitOfRows, limitsOfPred, limitsOfType, limits}
 use Rattle.lowering.specs.Encoding.{encodeExpr, encode}
-use Rattle.rounds.specs.Answer.{Bounds}
 use Rattle.table.specs.Valid.{Under}
 use Rattle.table.specs.Laws.Valid.{under-nil, under-cons, under-append, each-of}
 use Rattle.lowering.specs.Laws.Decoding.{encode-append}
@@ -30,7 +29,7 @@ module _ (d : Diagram) (w : WellFormed d) where
   unfolding lower
   lower-length = simp (length-append, length-map)
 
-  upper-length : length (upper d) ≡ length (d .types) + length (d .preds) + length (allRoles d) + length (allGroups d)
+  pub upper-length : length (upper d) ≡ length (d .types) + length (d .preds) + length (allRoles d) + length (allGroups d)
   unfolding upper
   upper-length = simp (length-append, length-map)
 
@@ -56,7 +55,7 @@ type-upper n t f = go (isRoot t)
     go false = f .most
 
 module _ (d : Diagram) (w : WellFormed d) where
-  upper-under : Under 4096 (upper d)
+  pub upper-under : Under 4096 (upper d)
   unfolding upper
   upper-under =
       under-append _ _
@@ -66,9 +65,6 @@ module _ (d : Diagram) (w : WellFormed d) where
       (under-map 4096 (λ (p : Predicate). p .max) (d .preds) (λ p m. w .preds p m .most)))
       (under-map 4096 (λ (r : Role). 4096) (allRoles d) (λ r m. omega arith)))
       (under-map 4096 (λ (f : Frequency). 4096) (allGroups d) (λ f m. omega arith))
-
-  pub start-bounds : Bounds (lower d) (upper d)
-  start-bounds = record { paired = as-many d w; few = upper-fits d w; small = record { at = upper-under .at } }
 
 -- ---- the limits
 

@@ -1,6 +1,6 @@
 -- `lowering::lower_by` meets its contract. Where the value is below the entry it is stored; elsewhere the store would change nothing.
 -- Assumes nothing.
-use Rattle.lowering.proofs.Step.{lower-here, lower-kept, lower-out}
+use Rattle.lowering.proofs.Step.{lower-here, lower-kept, target-there}
 use borrow.Author.Needs.{needs}
 use Rattle.lowering.proofs.lower_by.Statement.{statement}
 use Rattle.lowering.proofs.lower_by.Tie as tie
@@ -15,10 +15,9 @@ lower-by-spec =
     (λ c κs. search needs)
     (λ c κs. search needs)
     (λ c. search needs)
+    (λ c. search (needs, target-there))
     (λ c. search needs)
-    (λ c. search needs)
-    (λ c. search needs)
+    (λ c. search (needs, target-there))
     (λ c. search needs)
     (λ c. search (needs, lower-here))
-    (λ c. search (needs, lower-kept))
-    (λ c. search (needs, lower-out)))
+    (λ c. search (needs, lower-kept)))

@@ -3,6 +3,7 @@
 use Prim.Native.Nat.{_≤_, _-_}
 use lib.ListN.{length}
 use Rattle.lowering.proofs.Capped.{Timed, timed-none, timed-more, timed-all, small-fits}
+use Rattle.lowering.proofs.Step.{among-at}
 use borrow.Author.Needs.{needs}
 use Rattle.lowering.proofs.product.Statement.{statement}
 use Rattle.lowering.proofs.product.Tie as tie
@@ -22,8 +23,7 @@ product-spec =
     (λ c. search (needs, timed-none))
     (λ c. search needs)
     (λ c. search needs)
-    (λ c κs. search needs)
-    (λ c κs. search needs)
+    (λ c κs. search (needs, among-at))
     (λ c. search (needs, small-fits))
     (λ c κs. search needs)
     (λ c. search needs)

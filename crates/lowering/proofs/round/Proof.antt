@@ -7,7 +7,7 @@ use Rattle.fixpoint.specs.Limits.{round}
 use Rattle.lowering.specs.Encoding.{decode}
 use Rattle.lowering.specs.Sizes.{Small}
 use Rattle.lowering.specs.Laws.Lowered.{long-as, small-as, long-lowered, small-lowered}
-use Rattle.lowering.proofs.Step.{Left, left-start, left-more, left-none}
+use Rattle.lowering.proofs.Step.{Left, left-start, left-more, left-none, left-whole}
 use borrow.Author.Needs.{needs}
 use Rattle.lowering.proofs.round.Statement.{statement}
 use Rattle.lowering.proofs.round.Tie as tie
@@ -28,7 +28,7 @@ round-spec =
     (λ c κs. search needs)
     (λ c. search (needs, left-start, long-as, small-as))
     (λ c. search needs)
-    (λ c κs. search needs)
+    (λ c κs. (search (needs, left-whole), (search needs, (search needs, search needs))))
     (λ c. search needs)
     (λ c. search needs)
     (λ c. search needs)

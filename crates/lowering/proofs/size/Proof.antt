@@ -1,6 +1,6 @@
--- `lowering::size` meets its contract. The entry at an index, or 0 past the end, is `getD`.
+-- `lowering::size` meets its contract. The entry at an index that is there is `getD`.
 -- Assumes nothing.
-use Rattle.lowering.proofs.Scan.{past-end}
+use Rattle.lowering.proofs.Step.{size-at, small-at}
 use borrow.Author.Needs.{needs}
 use Rattle.lowering.proofs.size.Statement.{statement}
 use Rattle.lowering.proofs.size.Tie as tie
@@ -12,5 +12,4 @@ size-spec =
     (λ c κs. search needs)
     (λ c. search needs)
     (λ c. search needs)
-    (λ c. cc)
-    (λ c. search (needs, past-end)))
+    (λ c. search (needs, size-at, small-at)))

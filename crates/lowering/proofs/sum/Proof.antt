@@ -3,6 +3,7 @@
 use Prim.Native.Nat.{_≤_, _-_}
 use lib.ListN.{length}
 use Rattle.lowering.proofs.Capped.{Added, added-none, added-more, added-all}
+use Rattle.lowering.proofs.Step.{among-at}
 use borrow.Author.Needs.{needs}
 use Rattle.lowering.proofs.sum.Statement.{statement}
 use Rattle.lowering.proofs.sum.Tie as tie
@@ -22,8 +23,7 @@ sum-spec =
     (λ c. search (needs, added-none))
     (λ c. search needs)
     (λ c. search needs)
-    (λ c κs. search needs)
-    (λ c κs. search needs)
+    (λ c κs. search (needs, among-at))
     (λ c. search needs)
     (λ c κs. search needs)
     (λ c. search needs)

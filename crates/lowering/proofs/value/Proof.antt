@@ -1,7 +1,7 @@
 -- `lowering::value` meets its contract. Each arm is one of the kinds of `exprOf`.
 -- Assumes nothing.
 use Rattle.lowering.proofs.Capped.{small-fits}
-use Rattle.lowering.proofs.Step.{is-product, is-sum, is-times, is-quotient}
+use Rattle.lowering.proofs.Step.{is-product, is-sum, is-times, is-quotient, fed-among, fed-times, fed-quotient}
 use borrow.Author.Needs.{needs}
 use Rattle.lowering.proofs.value.Statement.{statement}
 use Rattle.lowering.proofs.value.Tie as tie
@@ -10,17 +10,13 @@ pub value-spec : {M : Type 1} → statement M
 value-spec =
     tie.close
     (tie.spec
+    (λ c κs. search (needs, fed-among))
+    (λ c κs. search (needs, fed-among))
     (λ c κs. search needs)
-    (λ c κs. search needs)
-    (λ c κs. search needs)
-    (λ c κs. search needs)
-    (λ c κs. search needs)
-    (λ c κs. search needs)
+    (λ c κs. search (needs, fed-times, fed-among))
     (λ c. search (needs, small-fits))
     (λ c κs. search needs)
-    (λ c κs. search needs)
-    (λ c κs. search needs)
-    (λ c κs. search needs)
+    (λ c κs. search (needs, fed-quotient, fed-among))
     (λ c κs. search needs)
     (λ c. search (needs, is-product))
     (λ c. search (needs, is-sum))

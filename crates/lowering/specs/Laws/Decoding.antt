@@ -8,21 +8,24 @@ use lib.Seq.{getD-append-seam, getD-append-add, drop-append-add, take-append-sea
 use borrow.Author.Tests.{lt-ltb, le-ltb}
 use Rattle.fixpoint.specs.Limits.{Expr, product, sum, times, quotient, Limit}
 use Rattle.lowering.specs.Encoding.{exprOf, limitAt, decodeFrom, decode, encodeExpr, encode}
+use Rattle.lowering.specs.Closed.{operandsOf}
 
--- an expression's numbers
-record Shape (target : ℕ) (e : Expr) : Type 0 where
-  kind : ℕ
-  factor : ℕ
-  operands : List ℕ
-  is : encodeExpr target e ≡ kind ∷ target ∷ factor ∷ length operands ∷ operands
-  means : exprOf kind factor operands ≡ e
+-- An expression's numbers
+pub record Shape (target : ℕ) (e : Expr) : Type 0 where
+  pub kind : ℕ
+  pub factor : ℕ
+  pub operands : List ℕ
+  pub is : encodeExpr target e ≡ kind ∷ target ∷ factor ∷ length operands ∷ operands
+  pub means : exprOf kind factor operands ≡ e
+  pub reads : operandsOf e ≡ operands
+  pub some : 2 ≤ kind → 0 < length operands
 
-shape : (target : ℕ) (e : Expr) → Shape target e
-unfolding encodeExpr exprOf
-shape target (product ss) = record { kind = 0; factor = 0; operands = ss; is = refl; means = refl }
-shape target (sum ss) = record { kind = 1; factor = 0; operands = ss; is = refl; means = refl }
-shape target (times k s) = record { kind = 2; factor = k; operands = s ∷ []; is = refl; means = refl }
-shape target (quotient s k) = record { kind = 3; factor = k; operands = s ∷ []; is = refl; means = refl }
+pub shape : (target : ℕ) (e : Expr) → Shape target e
+unfolding encodeExpr exprOf operandsOf
+shape target (product ss) = record { kind = 0; factor = 0; operands = ss; is = refl; means = refl; reads = refl; some = λ h. omega arith }
+shape target (sum ss) = record { kind = 1; factor = 0; operands = ss; is = refl; means = refl; reads = refl; some = λ h. omega arith }
+shape target (times k s) = record { kind = 2; factor = k; operands = s ∷ []; is = refl; means = refl; reads = refl; some = λ h. omega arith }
+shape target (quotient s k) = record { kind = 3; factor = k; operands = s ∷ []; is = refl; means = refl; reads = refl; some = λ h. omega arith }
 
 module _ (pre : List ℕ) (k t f : ℕ) (ss rest : List ℕ) where
   all : List ℕ

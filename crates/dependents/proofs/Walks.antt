@@ -2,7 +2,7 @@
 use Prim.Native.Nat.{ℕ, zero, suc, _+_, _-_, _≤_, _<_}
 use native.Mathlib.Numerals.{add-one}
 use native.Mathlib.Omega.{arith}
-use mathlib.Core.Path.{_≡_, refl, sym, ap, _∙_, subst⁻¹}
+use mathlib.Core.Path.{_≡_, refl, sym, ap, _∙_, subst, subst⁻¹}
 use mathlib.Core.Bool.{Bool, true, false}
 use mathlib.Core.List.{List, [], _∷_, _++_}
 use lib.Dec.{ltb}
@@ -103,8 +103,19 @@ module _ (xs : List ℕ) where
   at-first = record { start = first; low = omega arith }
 
   module _ {p : ℕ} (w : At xs p) (h : p + 4 ≤ length xs) where
-    pub at-room : (n : ℕ) → Closed xs n → p + 4 + getD xs (p + 3) 0 ≤ length xs
-    at-room n c = c .whole p (w .start) h .room
+    pub at-whole : (n : ℕ) → Closed xs n → Whole xs n p
+    at-whole n c = c .whole p (w .start) h
 
     pub at-next : {k : ℕ} → k ≡ getD xs (p + 3) 0 → k < 4294967296 → At xs (p + 4 + k)
     at-next e l = record { start = rw e (behind (w .start) h); low = omega arith }
+
+-- ---- the operands of a whole limit are among the sets
+
+module _ (xs : List ℕ) (n p : ℕ) {e o : ℕ} (w : Whole xs n p) (is : e ≡ p + 4 + getD xs (p + 3) 0) where
+  pub operand-below : (q : ℕ) → p + 4 ≤ q → q < e → o ≡ getD xs q 0 → o < n
+  operand-below q h l r =
+      let at : p + 4 + (q - (p + 4)) ≡ q = omega arith in
+      rw r (subst (λ (i : ℕ). getD xs i 0 < n) at (w .operands (q - (p + 4)) (omega arith)))
+
+  pub single-below : e ≡ p + 5 → o ≡ getD xs (p + 4) 0 → o < n
+  single-below h r = operand-below (p + 4) (omega arith) (omega arith) r

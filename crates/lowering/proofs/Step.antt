@@ -1,5 +1,5 @@
 -- One limit: its value, read from the numbers that encode it, and what it does to the sizes.
-use mathlib.Core.Path.{_≡_, refl, sym, ap, subst, _∙_}
+use mathlib.Core.Path.{_≡_, refl, sym, ap, subst, subst⁻¹, _∙_}
 use mathlib.Core.List.{List, [], _∷_}
 use Prim.Native.Nat.{ℕ, zero, suc, _+_, _*_, _/_, _-_, _≤_, _<_, min}
 use native.Mathlib.Nat.{div-le-self}
@@ -102,6 +102,10 @@ module _ (old new : List ℕ) (l : Limit) {t : ℕ} (et : t ≡ l .target) where
   lower-kept ev small h =
       let v-is : getD new t 0 ≡ min (getD new t 0) (valueOf old (l .most)) = omega (arith, small .at t) in
       rw (← et) (sym (set-getD new t 0) ∙ ap (set new t) v-is)
+
+-- a limit is as whole for as many other sizes
+pub whole-paired : (xs old new : List ℕ) (at : ℕ) → length new ≡ length old → Whole xs (length old) at → Whole xs (length new) at
+whole-paired xs old new at e w = subst⁻¹ (λ (n : ℕ). Whole xs n at) e w
 
 -- the target of a whole limit is one of the sets
 pub target-there : (xs old new : List ℕ) (at : ℕ) {t : ℕ} → Whole xs (length old) at → length new ≡ length old → t ≡ getD xs (at + 1) 0

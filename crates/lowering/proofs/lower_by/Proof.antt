@@ -1,6 +1,6 @@
 -- `lowering::lower_by` meets its contract. Where the value is below the entry it is stored; elsewhere the store would change nothing.
 -- Assumes nothing.
-use Rattle.lowering.proofs.Step.{lower-here, lower-kept, target-there}
+use Rattle.lowering.proofs.Step.{lower-here, lower-kept, target-there, whole-paired}
 use borrow.Author.Needs.{needs}
 use Rattle.lowering.proofs.lower_by.Statement.{statement}
 use Rattle.lowering.proofs.lower_by.Tie as tie
@@ -13,7 +13,7 @@ lower-by-spec =
     (λ c. search needs)
     (λ c. search needs)
     (λ c κs. search needs)
-    (λ c κs. search needs)
+    (λ c κs. search (needs, whole-paired))
     (λ c. search needs)
     (λ c. search (needs, target-there))
     (λ c. search needs)

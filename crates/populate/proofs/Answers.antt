@@ -8,7 +8,8 @@ use lib.Seq.{take-append-seam, length-take-le}
 use Rattle.fixpoint.specs.Limits.{Verdict, unsatisfiable, fixpoint}
 use Rattle.orm.specs.Diagram.{Diagram}
 use Rattle.orm.specs.Text.{tableLine}
-use Rattle.orm.specs.Sets.{verdict}
+use Rattle.orm.specs.Sets.{upper, verdict}
+use Rattle.orm.specs.Laws.Rounds.{verdict-laws}
 use Rattle.orm.specs.Population.{cells}
 use Rattle.orm.specs.Populate.{population}
 use Rattle.orm.specs.Outcome.{Outcome, refused, accepted, _>>=_, fitted, bufferAfter, Sized, written, Handed, handedBack}
@@ -23,9 +24,9 @@ use Rattle.buffer.specs.Written.{Wrote}
 use Rattle.buffer.specs.Laws.{wrote-whole}
 use Rattle.table.specs.Positions.{diagramOf}
 use Rattle.table.specs.Valid.{Valid}
-use Rattle.table.specs.Laws.Valid.{accepted-valid}
+use Rattle.table.specs.Laws.Valid.{accepted-valid, sets-few}
 use Rattle.tuples.specs.Steps.{Small}
-use Rattle.populate.specs.Answer.{sizedIn, Answered}
+use Rattle.populate.specs.Answer.{sizedIn, Answered, Roomy}
 use Rattle.populate.specs.declared.PopulateAnswer.{PopulateAnswer}
 use Rattle.populate.specs.declared.PopulateAnswer.the-variants.{Refused, Unsatisfiable, TooShort, Accepted}
 
@@ -56,15 +57,15 @@ module _ (rounds : ℕ) (made o : List ℕ) where
 
 -- ---- from the check's outcome to this one
 
--- how the check of a table with room for 208 sizes ends, and populating with it
+-- how the check of a table with room for the sizes of its sets ends, and populating with it
 data Ends (t : List ℕ) (space : ℕ) : Outcome Sized → Outcome Sized → Type 0 where
   stopped : (n place round : ℕ) → Ends t space (refused n place round) (refused n place round)
   settled : (n : ℕ) (c : List ℕ) → Valid t → verdict (diagramOf t) ≡ fixpoint n c
       → Ends t space (accepted (record { rounds = n; result = c })) (sizedIn space n (cells (population (diagramOf t) c)))
 
-room-for : (n : ℕ) (c : List ℕ) → length c ≤ 208 → sizedIn 208 n c ≡ accepted (record { rounds = n; result = c })
+room-for : (m n : ℕ) (c : List ℕ) → length c ≤ m → sizedIn m n c ≡ accepted (record { rounds = n; result = c })
 unfolding sizedIn
-room-for n c h = ap (λ (q : Outcome (List ℕ)). q >>= λ w. accepted (record { rounds = n; result = w })) (fits 208 c h)
+room-for m n c h = ap (λ (q : Outcome (List ℕ)). q >>= λ w. accepted (record { rounds = n; result = w })) (fits m c h)
 
 -- the outcome of a verdict, and what is made of the sizes
 abbrev outcomeOf : Verdict → Outcome Sized
@@ -73,14 +74,14 @@ outcomeOf v = elim v [ unsatisfiable s round ↦ refused 7 (suc s) round | fixpo
 abbrev made : (List ℕ → List ℕ) → ℕ → Sized → Outcome Sized
 made make space s = sizedIn space (s .rounds) (make (s .result))
 
-module _ (t : List ℕ) (space : ℕ) where
+module _ (t scratch : List ℕ) (roomy : Roomy t scratch) (space : ℕ) where
   by-verdict : (v : Verdict) → Valid t → verdict (diagramOf t) ≡ v
-      → Ends t space (outcomeOf v >>= made (λ c. c) 208) (outcomeOf v >>= made (λ c. cells (population (diagramOf t) c)) space)
+      → Ends t space (outcomeOf v >>= made (λ c. c) (length scratch)) (outcomeOf v >>= made (λ c. cells (population (diagramOf t) c)) space)
   by-verdict (unsatisfiable s n) valid e = stopped 7 (suc s) n
-  by-verdict (fixpoint n c) valid e = rw (room-for n c (sizes-few (diagramOf t) (valid .formed) e)) (settled n c valid e)
+  by-verdict (fixpoint n c) valid e = rw (room-for (length scratch) n c (roomy .room valid e)) (settled n c valid e)
 
   by-form : (o : Outcome Diagram) → diagramIn tableLine t ≡ o
-      → Ends t space (o >>= λ d. outcomeOf (verdict d) >>= made (λ c. c) 208)
+      → Ends t space (o >>= λ d. outcomeOf (verdict d) >>= made (λ c. c) (length scratch))
       (o >>= λ d. outcomeOf (verdict d) >>= made (λ c. cells (population d c)) space)
   by-form (refused n place round) e = stopped n place round
   by-form (accepted d) e =
@@ -88,7 +89,7 @@ module _ (t : List ℕ) (space : ℕ) where
       let same : d ≡ diagramOf t = cc (e, valid .reads) in
       rw same (by-verdict (verdict (diagramOf t)) valid refl)
 
-  ends : Ends t space (checkCall t 208) (populateCall t space)
+  ends : Ends t space (checkCall t (length scratch)) (populateCall t space)
   unfolding checkCall populateCall settledInto sizesOf sizedIn
   ends = by-form (diagramIn tableLine t) refl
 
@@ -99,9 +100,9 @@ refused-both : (t : List ℕ) (space : ℕ) {n place round : ℕ} {p q : Outcome
 refused-both t space (stopped n place round) e = cc
 refused-both t space (settled n c valid v) e = let z : _≡_ {A = ℕ} 0 1 = cc in absurd (omega arith)
 
-module _ (t s b : List ℕ) (r : CheckAnswer) (long : length s ≡ 208) (e : checkOf r ≡ handedBack (checkCall t (length s))) where
+module _ (t s b : List ℕ) (r : CheckAnswer) (roomy : Roomy t s) (e : checkOf r ≡ handedBack (checkCall t (length s))) where
   refused-same : {n place round : ℕ} → checkOf r ≡ refused n place round → populateCall t (length b) ≡ refused n place round
-  refused-same h = refused-both t (length b) (ends t (length b)) (sym h ∙ e ∙ ap (λ (n : ℕ). handedBack (checkCall t n)) long)
+  refused-same h = refused-both t (length b) (ends t s roomy (length b)) (sym h ∙ e)
 
   pub answer-faulty : {f : Fault} {line : ℕ} → r ≡ checked.Refused f line → Answered (populateCall t (length b)) (Refused f line) b b
   unfolding written bufferAfter
@@ -134,12 +135,10 @@ settled-of t space {n = n} {k = k} (settled m c valid v) made e w =
     let rounds : n ≡ m = ap (λ (x : Handed). x .rounds) h in
     record { sizes = c; count = ap (λ (x : Handed). x .resultLength) h; valid = valid; ended-so = rw rounds v; buffer = w; made-so = rw rounds made }
 
-module _ (t s b : List ℕ) {s′ : List ℕ} (r : CheckAnswer) {n k : ℕ} (p : r ≡ checked.Accepted k n) (long : length s ≡ 208)
+module _ (t s b : List ℕ) {s′ : List ℕ} (r : CheckAnswer) {n k : ℕ} (p : r ≡ checked.Accepted k n) (roomy : Roomy t s)
     (e : checkOf r ≡ handedBack (checkCall t (length s))) (w : s′ ≡ bufferAfter (written (checkCall t (length s))) s) where
   here : Settled t (length b) n k s s′
-  here =
-      settled-of t (length b) (ends t (length b)) refl (sym (ap checkOf p) ∙ e ∙ ap (λ (m : ℕ). handedBack (checkCall t m)) long)
-      (w ∙ ap (λ (m : ℕ). bufferAfter (written (checkCall t m)) s) long)
+  here = settled-of t (length b) (ends t s roomy (length b)) refl (sym (ap checkOf p) ∙ e) w
 
   front : take k s′ ≡ here .sizes
   front =
@@ -161,3 +160,15 @@ module _ (t s b : List ℕ) {s′ : List ℕ} (r : CheckAnswer) {n k : ℕ} (p :
   pub answer-cells : {a : PopulateAnswer} {b′ : List ℕ} → Answered (sizedIn (length b) n (cells (population (diagramOf t) (take k s′)))) a b b′
       → Answered (populateCall t (length b)) a b b′
   answer-cells v = rw (here .made-so) (rw front at v)
+
+-- ---- room for the sizes
+
+sizes-as-sets : (d : Diagram) {n : ℕ} {c : List ℕ} → verdict d ≡ fixpoint n c → length c ≡ length (upper d)
+unfolding verdict
+sizes-as-sets d e = verdict-laws d .at-fixpoint e .solution .under .sized
+
+pub room-of-208 : (t : List ℕ) {s : List ℕ} → length s ≡ 208 → Roomy t s
+room-of-208 t h = record { room = λ v e. omega (arith, sizes-few (diagramOf t) (v .formed) e) }
+
+pub room-of-32 : (t : List ℕ) {s : List ℕ} → length t < 68 → length s ≡ 32 → Roomy t s
+room-of-32 t short h = record { room = λ v e. omega (arith, sets-few t v, sizes-as-sets (diagramOf t) e) }

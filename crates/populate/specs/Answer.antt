@@ -1,8 +1,13 @@
 -- What populating hands back, and what it leaves in the buffer, in document 01's words.
-use Prim.Native.Nat.{ℕ}
+use Prim.Native.Nat.{ℕ, _≤_}
 use mathlib.Core.Path.{_≡_}
 use mathlib.Core.List.{List}
+use lib.ListN.{length}
 use Rattle.orm.specs.Outcome.{Outcome, refused, accepted, _>>=_, fitted, bufferAfter, Sized, written, Handed, handedBack}
+use Rattle.fixpoint.specs.Limits.{fixpoint}
+use Rattle.orm.specs.Sets.{verdict}
+use Rattle.table.specs.Positions.{diagramOf}
+use Rattle.table.specs.Valid.{Valid}
 use Rattle.grammar.specs.Fault.{numberOf}
 use Rattle.populate.specs.declared.PopulateAnswer.{PopulateAnswer}
 use Rattle.populate.specs.declared.PopulateAnswer.the-variants.{Refused, Unsatisfiable, TooShort, Accepted}
@@ -22,3 +27,7 @@ sizedIn space rounds result = fitted space result >>= λ w. accepted (record { r
 pub record Answered (o : Outcome Sized) (r : PopulateAnswer) (before after : List ℕ) : Type 0 where
   pub handed : populateOf r ≡ handedBack o
   pub buffer : after ≡ bufferAfter (written o) before
+
+-- Scratch in which the sizes of the sets of a valid table fit
+pub record Roomy (t scratch : List ℕ) : Type 0 where
+  pub room : {n : ℕ} {c : List ℕ} → Valid t → verdict (diagramOf t) ≡ fixpoint n c → length c ≤ length scratch

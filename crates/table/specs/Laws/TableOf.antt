@@ -7,7 +7,7 @@ use mathlib.Core.List.{List, [], _∷_, _++_, map, flatMap, append-assoc}
 use lib.ListN.{length, getD, drop, length-append}
 use lib.Seq.{drop-at, drop-drop}
 use Rattle.orm.specs.Diagram.{ObjectType, Role, Frequency, Predicate, Diagram, Line, lineOfType, lineOfRole, lineOfGroup, lineOfPred}
-use Rattle.orm.specs.Diagram.{linesOfPred, lineOfCount, predsLine, endLine, allRoles, lines, table}
+use Rattle.orm.specs.Diagram.{linesOfPred, lineOfCount, predsLine, endLine, allRoles, allGroups, lines, table}
 use Rattle.orm.specs.Reader.{read}
 use Rattle.orm.specs.Form.{typeOf, roleOf, groupOf, reading}
 use Rattle.orm.specs.Text.{tableLine}
@@ -147,6 +147,22 @@ preds-long (p ∷ ps) s =
     ap (predsLength (suc (length ps))) e ∙ here
     ∙ sym (long ∙ ap (λ (n : ℕ). n + length (values (flatMap linesOfPred ps))) (pred-long p rest))
 
+preds-count : (ps : List Predicate)
+    → length (values (flatMap linesOfPred ps))
+    ≡ 4 * length ps + 3 * length (flatMap (λ (p : Predicate). p .roles) ps) + 2 * length (flatMap (λ (p : Predicate). p .groups) ps)
+unfolding values flatMap whole head lineOfPred
+preds-count [] = omega arith
+preds-count (p ∷ ps) =
+    omega (
+      arith,
+      ap length (values-append (linesOfPred p) (flatMap linesOfPred ps)),
+      length-append (values (linesOfPred p)) (values (flatMap linesOfPred ps)),
+      pred-long p [],
+      preds-count ps,
+      length-append (p .roles) (flatMap (λ (p : Predicate). p .roles) ps),
+      length-append (p .groups) (flatMap (λ (p : Predicate). p .groups) ps),
+    )
+
 module _ (d : Diagram) where
   types : List ℕ
   types = values (map lineOfType (d .types))
@@ -196,6 +212,15 @@ module _ (d : Diagram) where
       let long : predsLength (getD (drop (2 + 6 * length (d .types)) t) 0 0) (drop (3 + 6 * length (d .types)) t) ≡ length preds =
       ap₂ (λ (s r : List ℕ). predsLength (getD s 0 0) r) preds-at preds-after ∙ preds-long (d .preds) last in
       rw table-whole (omega (arith, long, length-append types from-preds, types-long (d .types), length-append preds last))
+
+  -- How many numbers the table has
+  pub table-length : length (table d) ≡ 4 + 6 * length (d .types) + 4 * length (d .preds) + 3 * length (allRoles d) + 2 * length (allGroups d)
+  unfolding types from-preds allRoles allGroups
+  table-length =
+      let last : List ℕ = length (allRoles d) ∷ [] in
+      let preds : List ℕ = values (flatMap linesOfPred (d .preds)) in
+      rw table-whole
+      (omega (arith, length-append types from-preds, types-long (d .types), length-append preds last, preds-count (d .preds)))
 
 -- Reading and positions agree
 pub read-back : (t : List ℕ) (d : Diagram) (n : ℕ) (rest : List ℕ) → reading tableLine t ≡ read d n rest → diagramOf t ≡ d

@@ -25,7 +25,8 @@ use Rattle.table.specs.Valid.{Valid}
 use Rattle.table.specs.Laws.Valid.{accepted-valid, valid-walkable}
 use Rattle.lowering.specs.Laws.Decoding.{decode-encode}
 use Rattle.selection.specs.Selected.{typesOf, Types}
-use Rattle.limits.specs.Laws.Room.{lower-length, as-many, limits-fit, lower-fits}
+use Rattle.orm.specs.Laws.Bounds.{length-lower, bounds-paired, lower-few}
+use Rattle.limits.specs.Laws.Room.{limits-fit}
 use Rattle.limits.specs.Laws.Start.{start-bounds}
 use Rattle.bounds.specs.Answer.{checkOf, ended, Answered, Known, Limits, Lowers, FewLowers, Few}
 use Rattle.bounds.specs.declared.CheckAnswer.{CheckAnswer}
@@ -149,19 +150,19 @@ module _ {t : List ℕ} {roles groups : ℕ} (known : Known t roles groups) wher
 
   -- the lower bounds, where there was room for those of every diagram
   pub lower-within : {a a′ : List ℕ} {n : ℕ} → length a ≡ 208 → Wrote a 0 (lower (diagramOf t)) a′ n → n ≤ length a′
-  lower-within h w = wrote-within w (omega (arith, lower-fits (diagramOf t) (v .formed)))
+  lower-within h w = wrote-within w (omega (arith, lower-few (diagramOf t) (v .formed)))
 
   pub lower-whole : {a a′ b : List ℕ} {n : ℕ} → length a ≡ 208 → length b ≡ 208 → Wrote a 0 (lower (diagramOf t)) a′ n
       → Lowers t (take n a′) b
   lower-whole {a} {a′} {b} {n} h k w =
-      let e : take n a′ ≡ lower (diagramOf t) = wrote-front w (omega (arith, lower-fits (diagramOf t) (v .formed))) in
-      record { are = e; room = rw e (omega (arith, lower-fits (diagramOf t) (v .formed))) }
+      let e : take n a′ ≡ lower (diagramOf t) = wrote-front w (omega (arith, lower-few (diagramOf t) (v .formed))) in
+      record { are = e; room = rw e (omega (arith, lower-few (diagramOf t) (v .formed))) }
 
   -- what was written into the scratch `b` for upper bounds
   module _ {l b : List ℕ} (low : Lowers t l b) where
     upper-room : length (upper (diagramOf t)) ≤ length b
     upper-room = let e : length l ≡ length (lower (diagramOf t)) = ap length (low .are) in
-        omega (arith, as-many (diagramOf t) (v .formed), low .room)
+        omega (arith, bounds-paired (diagramOf t), low .room)
 
     module _ {b′ : List ℕ} {k : ℕ} (w : Wrote b 0 (upper (diagramOf t)) b′ k) where
       pub upper-within : k ≤ length b′
@@ -172,7 +173,7 @@ module _ {t : List ℕ} {roles groups : ℕ} (known : Known t roles groups) wher
 
       pub few-upper : FewLowers t l → length (take k b′) < 32
       few-upper few =
-          omega (arith, ap length (wrote-front w upper-room), ap length (low .are), as-many (diagramOf t) (v .formed), few .few)
+          omega (arith, ap length (wrote-front w upper-room), ap length (low .are), bounds-paired (diagramOf t), few .few)
 
       pub checked : {ls s s′ : List ℕ} {r : CheckAnswer} → Limits t ls
           → Answered (ended (run (decode ls) l (take k b′)) (length s)) r s s′ → Answered (checkCall t (length s)) r s s′
@@ -206,7 +207,7 @@ module _ {t : List ℕ} {roles groups : ℕ} (known : Known t roles groups) wher
   all-sets : length (lower (diagramOf t)) ≡ firstRole (diagramOf t) + roles + groups
   unfolding firstRole firstPred
   all-sets =
-      lower-length (diagramOf t) (known .valid .formed)
+      length-lower (diagramOf t)
       ∙ rw (known .counted .roles-are, known .counted .groups-are)
 
   pub sets-are : {first : ℕ} → first ≡ firstRole (diagramOf t) → first + roles + groups ≡ length (lower (diagramOf t))

@@ -15,23 +15,16 @@ ghost use Rattle.validator.specs.Outcomes.{validateOf};
 ghost use Rattle.writer.specs.Answer.{writeOf};
 ghost use Rattle.capi.specs.Answers.{numbers, roundless, verdictNumbers};
 
-fn number_of(fault: grammar::Fault) -> u64
-    ensures { λ r. ⌜ r ≡ numberOf fault ⌝ }
-{
-    match fault {
-        grammar::Fault::Malformed => 1,
-        grammar::Fault::OutOfRange => 2,
-        grammar::Fault::Unknown => 3,
-        grammar::Fault::Disordered => 4,
-        grammar::Fault::Unnamed => 5,
-        grammar::Fault::Miscounted => 6,
-    }
-}
-
 fn of_size(x: usize) -> u64
     ensures { λ r. ⌜ r ≡ x ⌝ }
 {
     x as u64
+}
+
+fn number_of(fault: grammar::Fault) -> u64
+    ensures { λ r. ⌜ r ≡ numberOf fault ⌝ }
+{
+    of_size(grammar::number_of(fault))
 }
 
 fn of_u32(x: u32) -> u64

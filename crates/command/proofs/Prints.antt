@@ -39,7 +39,7 @@ use Rattle.populate.specs.Tied.{demand-3}
 use Rattle.report.specs.Printed.{printed}
 use Rattle.report.specs.Laws.Printed.{printed-report}
 use Rattle.command.specs.Reports.{refusalLine, textReport, tableReport, Read, Settled}
-use Rattle.command.specs.Laws.TableLength.{table-length}
+use Rattle.command.specs.Laws.TableLength.{table-short}
 use Rattle.command.specs.Laws.Reports.{emptied-report, settled-report, large-report, table-accepted, table-report, table-means, text-report, faulty-report, program-cut, program-whole}
 
 -- ---- the refusal
@@ -203,7 +203,7 @@ module _ (text s s′ : List ℕ) (a : ReadAnswer) (long : length s ≡ 708) (e 
     pub read-short : {needed : ℕ} → a ≡ reads.TooShort needed → Wrote o 0 (refusalLine 8 needed 0) o′ r → Wrote o 0 (textReport text) o′ r
     read-short q v =
         let x = subst (λ (x : ReadAnswer). ReadMeans text x s s′) q told in
-        absurd (omega (arith, x .short, x .length-needed, long, table-length (x .of .diagram) (x .of .wellFormed)))
+        absurd (omega (arith, x .short, x .length-needed, long, table-short (x .of .diagram) (x .of .wellFormed)))
 
   module _ {n : ℕ} (q : a ≡ reads.Accepted n) where
     z : TableRead text n s s′

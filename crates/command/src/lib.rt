@@ -5,22 +5,8 @@ ghost use mathlib.Core.List.{[], _∷_};
 ghost use Prim.Native.Nat.{_≤_};
 ghost use lib.ListN.{length};
 ghost use Rattle.orm.specs.Program.{program};
-ghost use Rattle.grammar.specs.Fault.{numberOf};
 ghost use Rattle.buffer.specs.Written.{Wrote};
 ghost use Rattle.command.specs.Reports.{refusalLine, textReport, tableReport, Read, Settled};
-
-pub fn number_of(fault: grammar::Fault) -> usize
-    ensures { λ r. ⌜ r ≡ numberOf fault ⌝ }
-{
-    match fault {
-        grammar::Fault::Malformed => 1,
-        grammar::Fault::OutOfRange => 2,
-        grammar::Fault::Unknown => 3,
-        grammar::Fault::Disordered => 4,
-        grammar::Fault::Unnamed => 5,
-        grammar::Fault::Miscounted => 6,
-    }
-}
 
 // `refused=NUMBER,PLACE,ROUND`
 pub fn push_refusal(out: &mut [u8], number: usize, place: usize, round: usize) -> usize
@@ -48,7 +34,7 @@ fn print_cells(
     match answer {
         populate::PopulateAnswer::Refused { fault, line } => push_refusal(
             out,
-            number_of(fault),
+            grammar::number_of(fault),
             line,
             0,
         ),
@@ -84,7 +70,7 @@ fn print_sizes(table: &[u32], sizes: &mut [u32], out: &mut [u8]) -> usize
     match answer {
         bounds::CheckAnswer::Refused { fault, line } => push_refusal(
             out,
-            number_of(fault),
+            grammar::number_of(fault),
             line,
             0,
         ),
@@ -117,7 +103,12 @@ fn print_text(text: &[u8], table: &mut [u32], out: &mut [u8]) -> usize
 {
     let answer = reader::read(text, table);
     match answer {
-        reader::ReadAnswer::Refused { fault, line } => push_refusal(out, number_of(fault), line, 0),
+        reader::ReadAnswer::Refused { fault, line } => push_refusal(
+            out,
+            grammar::number_of(fault),
+            line,
+            0,
+        ),
         reader::ReadAnswer::TooShort { needed } => push_refusal(out, 8, needed, 0),
         reader::ReadAnswer::Accepted { length } => print_table(&table[..length], out),
     }

@@ -81,12 +81,6 @@ within-from xs n s (suc m) at c q = go (ltb (length xs) (at + 4)) refl (within-f
         within-cons xs n (reads (operandsAt xs at) s) at rest (c .whole at q h) (w (behind q h))
 
 module _ (xs starts entries : List ℕ) (s : ℕ) (r : Row xs starts entries s) where
-  pub row-ordered : getD starts s 0 ≤ getD starts (s + 1) 0
-  row-ordered = r .ordered
-
-  pub row-within : getD starts (s + 1) 0 ≤ length entries
-  row-within = r .within
-
   pub row-entries : (n : ℕ) → Closed xs n → Within xs n (take (getD starts (s + 1) 0 - getD starts s 0) (drop (getD starts s 0) entries))
   unfolding dependents
   row-entries n c = subst⁻¹ (Within xs n) (r .is) (within-from xs n s (length xs) 0 c first)

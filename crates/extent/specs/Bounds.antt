@@ -1,20 +1,20 @@
 -- How many sets a well-formed diagram has at most, how large they are, and how many rounds are made.
-use Prim.Native.Nat.{ℕ, _+_, _*_, _-_, _≤_, _<_, min}
+use Prim.Native.Nat.{ℕ, _*_, _-_, _≤_, _<_}
 use native.Mathlib.Decide.{decLt}
 use native.Mathlib.Nat.{mul-suc}
 use native.Mathlib.Omega.{arith}
 use mathlib.Core.Path.{_≡_}
-use mathlib.Core.Bool.{Bool, true, false}
 use mathlib.Core.List.{List, [], _∷_}
-use lib.ListN.{length, getD, length-append, length-map, List·getD-eq-default}
+use lib.ListN.{length, getD, List·getD-eq-default}
 use Rattle.counting.specs.Terms.{Each}
-use Rattle.counting.specs.Laws.Members.{each-head, each-tail, each-append, each-map, getD-in}
-use Rattle.counting.specs.Laws.Index.{in-at, at-getD, at-below, each-from-at}
+use Rattle.counting.specs.Laws.Members.{each-head, each-tail, getD-in}
+use Rattle.counting.specs.Laws.Index.{in-at, at-getD, at-below}
 use Rattle.fixpoint.specs.Limits.{slack, unsatisfiable, fixpoint}
 use Rattle.fixpoint.specs.Notions.{_≼_, FirstBelow}
-use Rattle.orm.specs.Diagram.{ObjectType, Predicate, Role, Frequency, Diagram, isRoot, allRoles, allGroups}
-use Rattle.orm.specs.Sets.{lower, upper, upperOfType, mostRounds, verdict}
-use Rattle.orm.specs.WellFormed.{TypeForm, WellFormed}
+use Rattle.orm.specs.Diagram.{Diagram}
+use Rattle.orm.specs.Sets.{lower, upper, mostRounds, verdict}
+use Rattle.orm.specs.WellFormed.{WellFormed}
+use Rattle.orm.specs.Laws.Bounds.{lower-few, upper-few, upper-small}
 use Rattle.orm.specs.Laws.Rounds.{verdict-laws, unsatisfiable-within, fixpoint-within}
 
 -- ---- lists of sizes
@@ -41,43 +41,10 @@ first-below-inside fs c s h = go (decLt s (length fs))
 
 -- ---- the sets of a diagram
 
-type-small : (n : ℕ) (t : ObjectType) → TypeForm n t → upperOfType t ≤ 4096
-unfolding upperOfType
-type-small n t f = go (isRoot t)
-  where
-    go : (b : Bool) → elim b [ true ↦ min (t .max) (t .last - t .first + 1) | false ↦ t .max ] ≤ 4096
-    go true = omega (arith, f .most)
-    go false = f .most
-
 module _ (d : Diagram) (form : WellFormed d) where
-  lower-few : length (lower d) ≤ 208
-  unfolding lower
-  lower-few =
-      let e : length (lower d) ≡ length (d .types) + length (d .preds) + length (allRoles d) + length (allGroups d) =
-      simp (length-append, length-map) in
-      omega (arith, e, form .typeCount .1, form .predCount .1, form .roleCount, form .groupCount)
-
-  upper-few : length (upper d) ≤ 208
-  unfolding upper
-  upper-few =
-      let e : length (upper d) ≡ length (d .types) + length (d .preds) + length (allRoles d) + length (allGroups d) =
-      simp (length-append, length-map) in
-      omega (arith, e, form .typeCount .1, form .predCount .1, form .roleCount, form .groupCount)
-
-  upper-small : Each (_≤ 4096) (upper d)
-  unfolding upper
-  upper-small =
-      each-append _ _ _
-      (each-append _ _ _
-      (each-append _ _ _
-      (each-map _ upperOfType (d .types) (λ t m. let (i, at) = in-at m in type-small (1 + i) t (each-from-at TypeForm 1 (form .types) at)))
-      (each-map _ (λ (p : Predicate). p .max) (d .preds) (λ p m. form .preds p m .most)))
-      (each-map _ (λ (r : Role). 4096) (allRoles d) (λ r m. omega arith)))
-      (each-map _ (λ (f : Frequency). 4096) (allGroups d) (λ f m. omega arith))
-
   rounds-at-most : mostRounds d ≤ 851969
   unfolding mostRounds
-  rounds-at-most = omega (arith, slack-at-most 4096 (lower d) (upper d) upper-small, upper-few)
+  rounds-at-most = omega (arith, slack-at-most 4096 (lower d) (upper d) (upper-small d form), upper-few d form)
 
   module _ {n : ℕ} {c : List ℕ} (e : verdict d ≡ fixpoint n c) where
     pub settled-rounds : n ≤ 851969
@@ -88,10 +55,10 @@ module _ (d : Diagram) (form : WellFormed d) where
     settled-under = verdict-laws d .at-fixpoint e .solution .under
 
     pub settled-few : length c ≤ 208
-    settled-few = omega (arith, settled-under .sized, upper-few)
+    settled-few = omega (arith, settled-under .sized, upper-few d form)
 
     pub settled-small : Each (_≤ 4096) c
-    settled-small = below-small 4096 settled-under upper-small
+    settled-small = below-small 4096 settled-under (upper-small d form)
 
   module _ {s n : ℕ} (e : verdict d ≡ unsatisfiable s n) where
     pub emptied-rounds : n ≤ 851969

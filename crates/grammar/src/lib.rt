@@ -9,6 +9,7 @@ pub mod tests;
 pub mod verdicts;
 
 ghost use mathlib.Core.Path.{_≡_};
+ghost use Rattle.grammar.specs.Fault.{numberOf};
 
 // What is wrong with a line.
 pub enum Fault {
@@ -24,6 +25,20 @@ pub enum Fault {
     Unnamed,
     // 6: `end` is not the number of roles
     Miscounted,
+}
+
+// The number of the refusal.
+pub fn number_of(fault: Fault) -> usize
+    ensures { λ r. ⌜ r ≡ numberOf fault ⌝ }
+{
+    match fault {
+        Fault::Malformed => 1,
+        Fault::OutOfRange => 2,
+        Fault::Unknown => 3,
+        Fault::Disordered => 4,
+        Fault::Unnamed => 5,
+        Fault::Miscounted => 6,
+    }
 }
 
 pub enum Verdict {

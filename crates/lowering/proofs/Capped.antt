@@ -1,5 +1,5 @@
 -- Arithmetic that is cut at 4096 at each step comes to the whole value, cut once.
-use mathlib.Core.Path.{_≡_, sym, ap, _∙_}
+use mathlib.Core.Path.{_≡_, ap, _∙_}
 use mathlib.Core.List.{List}
 use Prim.Native.Nat.{ℕ, zero, suc, _+_, _*_, _≤_, _<_, min}
 use native.Mathlib.Nat.{mul-comm, mul-assoc, zero-mul, one-mul, mul-one, suc-mul, mul-le-mul}

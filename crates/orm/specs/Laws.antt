@@ -4,4 +4,5 @@ pub mod Select
 pub mod Shape
 pub mod Decided
 pub mod Cells
+pub mod Bounds
 pub mod Rounds

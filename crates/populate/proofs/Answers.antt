@@ -2,22 +2,21 @@
 use Prim.Native.Nat.{ℕ, suc, _+_, _≤_, _<_}
 use native.Mathlib.Omega.{arith}
 use mathlib.Core.Path.{_≡_, refl, sym, ap, _∙_}
-use mathlib.Core.List.{List, [], _∷_, _++_}
-use lib.ListN.{length, getD, drop, take, length-append}
+use mathlib.Core.List.{List, _++_}
+use lib.ListN.{length, drop, take, length-append}
 use lib.Seq.{take-append-seam, length-take-le}
 use Rattle.fixpoint.specs.Limits.{Verdict, unsatisfiable, fixpoint}
 use Rattle.orm.specs.Diagram.{Diagram}
 use Rattle.orm.specs.Text.{tableLine}
-use Rattle.orm.specs.Sets.{upper, verdict}
-use Rattle.orm.specs.Laws.Rounds.{verdict-laws}
+use Rattle.orm.specs.Sets.{verdict}
 use Rattle.orm.specs.Population.{cells}
 use Rattle.orm.specs.Populate.{population}
-use Rattle.orm.specs.Outcome.{Outcome, refused, accepted, _>>=_, fitted, bufferAfter, Sized, written, Handed, handedBack}
+use Rattle.orm.specs.Outcome.{Outcome, refused, accepted, _>>=_, bufferAfter, Sized, written, Handed, handedBack}
 use Rattle.orm.specs.Calls.{diagramIn, sizesOf, settledInto, checkCall, populateCall}
 use Rattle.reading.specs.Laws.{fits, does-not-fit}
 use Rattle.grammar.specs.declared.Fault.{Fault}
 use Rattle.bounds.specs.Answer.{checkOf}
-use Rattle.bounds.specs.Laws.{sizes-few, sizes-small}
+use Rattle.bounds.specs.Laws.{sizes-sets, sizes-few, sizes-small}
 use Rattle.bounds.specs.declared.CheckAnswer.{CheckAnswer}
 use Rattle.bounds.specs.declared.CheckAnswer.the-variants as checked
 use Rattle.buffer.specs.Written.{Wrote}
@@ -163,12 +162,8 @@ module _ (t s b : List ℕ) {s′ : List ℕ} (r : CheckAnswer) {n k : ℕ} (p :
 
 -- ---- room for the sizes
 
-sizes-as-sets : (d : Diagram) {n : ℕ} {c : List ℕ} → verdict d ≡ fixpoint n c → length c ≡ length (upper d)
-unfolding verdict
-sizes-as-sets d e = verdict-laws d .at-fixpoint e .solution .under .sized
-
 pub room-of-208 : (t : List ℕ) {s : List ℕ} → length s ≡ 208 → Roomy t s
 room-of-208 t h = record { room = λ v e. omega (arith, sizes-few (diagramOf t) (v .formed) e) }
 
 pub room-of-32 : (t : List ℕ) {s : List ℕ} → length t < 68 → length s ≡ 32 → Roomy t s
-room-of-32 t short h = record { room = λ v e. omega (arith, sets-few t v, sizes-as-sets (diagramOf t) e) }
+room-of-32 t short h = record { room = λ v e. omega (arith, sets-few t v, sizes-sets (diagramOf t) (v .formed) e) }

@@ -8,7 +8,8 @@ use lib.ListN.{length, getD, drop}
 use Rattle.counting.specs.Lists.{mapFrom}
 use Rattle.orm.specs.Diagram.{Diagram, Role, index, allRoles}
 use Rattle.orm.specs.Sets.{Placed, Part, parts, groupRoles, firstRole}
-use Rattle.orm.specs.Populate.{size, firstValue, takenBefore, row}
+use Rattle.orm.specs.Population.{cellsOfPred}
+use Rattle.orm.specs.Populate.{size, firstValue, takenBefore, row, rows}
 use Rattle.table.specs.Positions.{each, diagramOf, Walkable}
 use Rattle.selection.specs.Selected.{Types}
 use Rattle.table.specs.Cursors.{placedAt, Here}
@@ -16,6 +17,10 @@ use Rattle.table.specs.Valid.{Under}
 use Rattle.table.specs.declared.Cursor.{Cursor}
 use Rattle.tuples.specs.Steps.{steps, tupleIn, Small}
 use Rattle.tuples.specs.Nested.{tuplesIn}
+
+-- The cells of the predicate at x
+abbrev pub cellsAt : List ℕ → List ℕ → Cursor → List ℕ
+cellsAt t c x = cellsOfPred (rows (diagramOf t) c (placedAt t x))
 
 -- ---- parts
 

@@ -15,7 +15,11 @@ ghost use Rattle.tuples.specs.Steps.{Small};
 pub fn count_type_cells(t: &[u32], c: &[u32]) -> usize
     requires { ⌜ Walkable (now t) ⌝ }
     requires { ⌜ Small (now c) ⌝ }
-    ensures { λ r. ⌜ r ≡ length (flatMap cellsOfType (map (typeValues (diagramOf (now (t .entry))) (now (c .entry))) (upFrom 0 (length (diagramOf (now (t .entry)) .types))))) ⌝ }
+    ensures { λ r.
+        ⌜ r
+        ≡ length
+        (flatMap cellsOfType
+        (map (typeValues (diagramOf (now (t .entry))) (now (c .entry))) (upFrom 0 (length (diagramOf (now (t .entry)) .types))))) ⌝ }
     ensures { λ r. ⌜ r ≤ 200000 ⌝ }
 {
     let mut left = table::type_count(t);
@@ -43,7 +47,11 @@ fn count_row_cells(t: &[u32], c: &[u32], x: table::Cursor) -> usize
 pub fn count_pred_cells(t: &[u32], c: &[u32]) -> usize
     requires { ⌜ Walkable (now t) ⌝ }
     requires { ⌜ Small (now c) ⌝ }
-    ensures { λ r. ⌜ r ≡ length (flatMap cellsOfPred (map (rows (diagramOf (now (t .entry))) (now (c .entry))) (placed (diagramOf (now (t .entry)))))) ⌝ }
+    ensures { λ r.
+        ⌜ r
+        ≡ length
+        (flatMap cellsOfPred
+        (map (rows (diagramOf (now (t .entry))) (now (c .entry))) (placed (diagramOf (now (t .entry)))))) ⌝ }
     ensures { λ r. ⌜ r ≤ 200000000000 ⌝ }
 {
     let mut left = table::pred_count(t);

@@ -19,7 +19,10 @@ ghost use Rattle.population.specs.Plan.{Wants};
 pub fn push_grouped(t: &[u32], x: table::Cursor, out: &mut [u32], at: usize) -> usize
     requires { ⌜ Walkable (now t) ⌝ }
     requires { ⌜ Here (now t) x ⌝ }
-    ensures { λ r. ⌜ Wrote (now (out .entry)) at (flatMap (groupRoles (placedAt (now (t .entry)) x)) (upFrom 1 (getD (drop (x .at) (now (t .entry))) 3 0))) (now (out .exit)) r ⌝ }
+    ensures { λ r.
+        ⌜ Wrote (now (out .entry)) at
+        (flatMap (groupRoles (placedAt (now (t .entry)) x)) (upFrom 1 (getD (drop (x .at) (now (t .entry))) 3 0)))
+        (now (out .exit)) r ⌝ }
 {
     let mut left = table::number(t, x.at, 3);
     let mut number: u32 = 1;
@@ -35,7 +38,10 @@ pub fn push_grouped(t: &[u32], x: table::Cursor, out: &mut [u32], at: usize) -> 
 fn push_group_counts(t: &[u32], x: table::Cursor, out: &mut [u32], at: usize) -> usize
     requires { ⌜ Walkable (now t) ⌝ }
     requires { ⌜ Here (now t) x ⌝ }
-    ensures { λ r. ⌜ Wrote (now (out .entry)) at (groupCounts (placedAt (now (t .entry)) x) (upFrom 1 (getD (drop (x .at) (now (t .entry))) 3 0))) (now (out .exit)) r ⌝ }
+    ensures { λ r.
+        ⌜ Wrote (now (out .entry)) at
+        (groupCounts (placedAt (now (t .entry)) x) (upFrom 1 (getD (drop (x .at) (now (t .entry))) 3 0)))
+        (now (out .exit)) r ⌝ }
 {
     let mut left = table::number(t, x.at, 3);
     let mut number: u32 = 1;
@@ -140,7 +146,10 @@ pub fn plan_parts(c: &[u32], roles: &[u32], wants: &[u32], ks: &[u32], out: &mut
     requires { ⌜ Small (now c) ⌝ }
     requires { ⌜ length (now roles) ≤ 6 ⌝ }
     requires { ⌜ Wants (now wants) (now ks) ⌝ }
-    ensures { λ r. ⌜ Wrote (now (out .entry)) 0 (stepsOfEach (now (wants .entry)) (now (ks .entry)) (sizesOf (now (c .entry)) (now (roles .entry)))) (now (out .exit)) r ⌝ }
+    ensures { λ r.
+        ⌜ Wrote (now (out .entry)) 0
+        (stepsOfEach (now (wants .entry)) (now (ks .entry)) (sizesOf (now (c .entry)) (now (roles .entry))))
+        (now (out .exit)) r ⌝ }
 {
     let mut sizes = role_space();
     let n = push_sizes(c, roles, &mut sizes, 0);

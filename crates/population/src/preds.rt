@@ -18,11 +18,10 @@ ghost use Rattle.orm.specs.Population.{cellsOfPred};
 ghost use Rattle.orm.specs.Populate.{rows};
 ghost use Rattle.buffer.specs.Written.{Wrote};
 ghost use Rattle.table.specs.Positions.{diagramOf};
-ghost use Rattle.table.specs.Cursors.{placedAt};
 ghost use Rattle.selection.specs.Selected.{Types};
 ghost use Rattle.tuples.specs.Steps.{Small};
 ghost use Rattle.table.specs.Valid.{Valid};
-ghost use Rattle.population.specs.Plan.{Ready, Ordered, Opened, Columned, Owned, Stepped, Prepared, Complete};
+ghost use Rattle.population.specs.Plan.{cellsAt, Ready, Ordered, Opened, Columned, Owned, Stepped, Prepared, Complete};
 
 fn column_space() -> [u32; 24] {
     [0u32; 24]
@@ -50,7 +49,7 @@ fn push_planned(
 ) -> usize
     requires { ⌜ Ready (now t) (now c) x ⌝ }
     requires { ⌜ Complete (now t) (now c) x (now columns) (now outer) (now ks) (now inner) ⌝ }
-    ensures { λ r. ⌜ Wrote (now (out .entry)) at (cellsOfPred (rows (diagramOf (now (t .entry))) (now (c .entry)) (placedAt (now (t .entry)) x))) (now (out .exit)) r ⌝ }
+    ensures { λ r. ⌜ Wrote (now (out .entry)) at (cellsAt (now (t .entry)) (now (c .entry)) x) (now (out .exit)) r ⌝ }
 {
     let size = size(c, x.own);
     let count = table::number(t, x.at, 2);
@@ -86,7 +85,7 @@ fn push_prepared(
 ) -> usize
     requires { ⌜ Ready (now t) (now c) x ⌝ }
     requires { ⌜ Prepared (now t) (now c) x (now roles) (now columns) (now sizes) (now outer) (now ks) ⌝ }
-    ensures { λ r. ⌜ Wrote (now (out .entry)) at (cellsOfPred (rows (diagramOf (now (t .entry))) (now (c .entry)) (placedAt (now (t .entry)) x))) (now (out .exit)) r ⌝ }
+    ensures { λ r. ⌜ Wrote (now (out .entry)) at (cellsAt (now (t .entry)) (now (c .entry)) x) (now (out .exit)) r ⌝ }
 {
     let mut inner = role_step_space();
     plan_parts(c, roles, sizes, ks, &mut inner);
@@ -108,7 +107,7 @@ fn push_stepped(
     requires { ⌜ Ready (now t) (now c) x ⌝ }
     requires { ⌜ Columned (now t) (now c) x (now roles) (now columns) ⌝ }
     requires { ⌜ Stepped (now t) (now c) x (now sizes) (now outer) ⌝ }
-    ensures { λ r. ⌜ Wrote (now (out .entry)) at (cellsOfPred (rows (diagramOf (now (t .entry))) (now (c .entry)) (placedAt (now (t .entry)) x))) (now (out .exit)) r ⌝ }
+    ensures { λ r. ⌜ Wrote (now (out .entry)) at (cellsAt (now (t .entry)) (now (c .entry)) x) (now (out .exit)) r ⌝ }
 {
     let mut ks = part_space();
     let m = push_counts(t, x, sizes.len(), &mut ks);
@@ -129,7 +128,7 @@ fn push_sized(
     requires { ⌜ Ready (now t) (now c) x ⌝ }
     requires { ⌜ Columned (now t) (now c) x (now roles) (now columns) ⌝ }
     requires { ⌜ Owned (now t) (now c) x (now sizes) ⌝ }
-    ensures { λ r. ⌜ Wrote (now (out .entry)) at (cellsOfPred (rows (diagramOf (now (t .entry))) (now (c .entry)) (placedAt (now (t .entry)) x))) (now (out .exit)) r ⌝ }
+    ensures { λ r. ⌜ Wrote (now (out .entry)) at (cellsAt (now (t .entry)) (now (c .entry)) x) (now (out .exit)) r ⌝ }
 {
     let mut outer = row_step_space();
     plan_rows(c, x.own, sizes, &mut outer);
@@ -150,7 +149,7 @@ fn push_columned(
     requires { ⌜ Ready (now t) (now c) x ⌝ }
     requires { ⌜ Columned (now t) (now c) x (now roles) (now columns) ⌝ }
     requires { ⌜ Opened (now t) x a (now roles) ⌝ }
-    ensures { λ r. ⌜ Wrote (now (out .entry)) at (cellsOfPred (rows (diagramOf (now (t .entry))) (now (c .entry)) (placedAt (now (t .entry)) x))) (now (out .exit)) r ⌝ }
+    ensures { λ r. ⌜ Wrote (now (out .entry)) at (cellsAt (now (t .entry)) (now (c .entry)) x) (now (out .exit)) r ⌝ }
 {
     let mut sizes = part_space();
     let n = part_sizes(t, c, x, &roles[a..], &mut sizes);
@@ -172,7 +171,7 @@ fn push_ordered(
     requires { ⌜ Types (now t) (now types) ⌝ }
     requires { ⌜ Ordered (now t) x (now roles) ⌝ }
     requires { ⌜ Opened (now t) x a (now roles) ⌝ }
-    ensures { λ r. ⌜ Wrote (now (out .entry)) at (cellsOfPred (rows (diagramOf (now (t .entry))) (now (c .entry)) (placedAt (now (t .entry)) x))) (now (out .exit)) r ⌝ }
+    ensures { λ r. ⌜ Wrote (now (out .entry)) at (cellsAt (now (t .entry)) (now (c .entry)) x) (now (out .exit)) r ⌝ }
 {
     let mut columns = column_space();
     let n = push_columns(t, c, types, roles, x, &mut columns);
@@ -192,7 +191,7 @@ fn push_gathered(
     requires { ⌜ Ready (now t) (now c) x ⌝ }
     requires { ⌜ Types (now t) (now types) ⌝ }
     requires { ⌜ length (now roles) ≡ 6 ⌝ }
-    ensures { λ r. ⌜ Wrote (now (out .entry)) at (cellsOfPred (rows (diagramOf (now (t .entry))) (now (c .entry)) (placedAt (now (t .entry)) x))) (now (out .exit)) r ⌝ }
+    ensures { λ r. ⌜ Wrote (now (out .entry)) at (cellsAt (now (t .entry)) (now (c .entry)) x) (now (out .exit)) r ⌝ }
 {
     let a = push_grouped(t, x, roles, 0);
     let n = selection::push_in_group(t, x, 0, roles, a);
@@ -210,7 +209,7 @@ fn push_pred(
 ) -> usize
     requires { ⌜ Ready (now t) (now c) x ⌝ }
     requires { ⌜ Types (now t) (now types) ⌝ }
-    ensures { λ r. ⌜ Wrote (now (out .entry)) at (cellsOfPred (rows (diagramOf (now (t .entry))) (now (c .entry)) (placedAt (now (t .entry)) x))) (now (out .exit)) r ⌝ }
+    ensures { λ r. ⌜ Wrote (now (out .entry)) at (cellsAt (now (t .entry)) (now (c .entry)) x) (now (out .exit)) r ⌝ }
 {
     let mut roles = role_space();
     push_gathered(t, c, types, x, &mut roles, out, at)
@@ -220,7 +219,10 @@ pub fn push_preds(t: &[u32], c: &[u32], types: &[u32], out: &mut [u32], at: usiz
     requires { ⌜ Valid (now t) ⌝ }
     requires { ⌜ Small (now c) ⌝ }
     requires { ⌜ Types (now t) (now types) ⌝ }
-    ensures { λ r. ⌜ Wrote (now (out .entry)) at (flatMap cellsOfPred (map (rows (diagramOf (now (t .entry))) (now (c .entry))) (placed (diagramOf (now (t .entry)))))) (now (out .exit)) r ⌝ }
+    ensures { λ r.
+        ⌜ Wrote (now (out .entry)) at
+        (flatMap cellsOfPred (map (rows (diagramOf (now (t .entry))) (now (c .entry))) (placed (diagramOf (now (t .entry))))))
+        (now (out .exit)) r ⌝ }
 {
     let mut left = table::pred_count(t);
     let mut x = table::first_cursor(t, selection::role_count(t, types));

@@ -78,7 +78,10 @@ fn position(p: u32, list: &[u32]) -> u32
 fn push_values(t: &[u32], c: &[u32], a: u32, out: &mut [u32], at: usize) -> usize
     requires { ⌜ Walkable (now t) ⌝ }
     requires { ⌜ Small (now c) ⌝ }
-    ensures { λ r. ⌜ Wrote (now (out .entry)) at (firstValue (diagramOf (now (t .entry)) .types) a ∷ getD (now (c .entry)) a 0 ∷ []) (now (out .exit)) r ⌝ }
+    ensures { λ r.
+        ⌜ Wrote (now (out .entry)) at
+        (firstValue (diagramOf (now (t .entry)) .types) a ∷ getD (now (c .entry)) a 0 ∷ [])
+        (now (out .exit)) r ⌝ }
 {
     let to = buffer::push(out, at, first_value(t, a));
     buffer::push(out, to, size(c, a))
@@ -99,7 +102,11 @@ fn push_places(
     requires { ⌜ Walkable (now t) ⌝ }
     requires { ⌜ Small (now c) ⌝ }
     requires { ⌜ Listed (now types) (now roles) ⌝ }
-    ensures { λ r. ⌜ Wrote (now (out .entry)) at (takenBefore (now (c .entry)) p (played number (firstRole (diagramOf (now (t .entry)))) (now (types .entry))) ∷ position p (now (roles .entry)) ∷ []) (now (out .exit)) r ⌝ }
+    ensures { λ r.
+        ⌜ Wrote (now (out .entry)) at
+        (takenBefore (now (c .entry)) p (played number (firstRole (diagramOf (now (t .entry)))) (now (types .entry)))
+        ∷ position p (now (roles .entry)) ∷ [])
+        (now (out .exit)) r ⌝ }
 {
     let start = taken(types, c, table::first_role(t), number, p);
     let place = position(p, roles);
@@ -122,7 +129,10 @@ fn push_column(
     requires { ⌜ Small (now c) ⌝ }
     requires { ⌜ Listed (now types) (now roles) ⌝ }
     requires { ⌜ q + 3 ≤ length (now t) ⌝ }
-    ensures { λ r. ⌜ Wrote (now (out .entry)) at (columnOf (diagramOf (now (t .entry))) (now (c .entry)) (now (types .entry)) (now (roles .entry)) p (roleOf (drop q (now (t .entry))))) (now (out .exit)) r ⌝ }
+    ensures { λ r.
+        ⌜ Wrote (now (out .entry)) at
+        (columnOf (diagramOf (now (t .entry))) (now (c .entry)) (now (types .entry)) (now (roles .entry)) p (roleOf (drop q (now (t .entry)))))
+        (now (out .exit)) r ⌝ }
 {
     let number = table::number(t, q, 0);
     let to = push_values(t, c, selection::less_one(number), out, at);
@@ -141,7 +151,12 @@ pub fn push_columns(
     requires { ⌜ Small (now c) ⌝ }
     requires { ⌜ Listed (now types) (now roles) ⌝ }
     requires { ⌜ Here (now t) x ⌝ }
-    ensures { λ r. ⌜ Wrote (now (out .entry)) 0 (flatten (mapFrom (columnOf (diagramOf (now (t .entry))) (now (c .entry)) (now (types .entry)) (now (roles .entry))) (x .roles) (placedAt (now (t .entry)) x .predicate .roles))) (now (out .exit)) r ⌝ }
+    ensures { λ r.
+        ⌜ Wrote (now (out .entry)) 0
+        (flatten
+        (mapFrom (columnOf (diagramOf (now (t .entry))) (now (c .entry)) (now (types .entry)) (now (roles .entry))) (x .roles)
+        (placedAt (now (t .entry)) x .predicate .roles)))
+        (now (out .exit)) r ⌝ }
 {
     let mut left = table::number(t, x.at, 2);
     let mut q = x.at + 4;

@@ -125,7 +125,10 @@ fn row_of(
     requires { ⌜ 4 * count ≤ length (now columns) ⌝ }
     requires { ⌜ Room (now inner) (now ks) (now rows) ⌝ }
     requires { ⌜ length (now flat) ≡ 6 ⌝ }
-    ensures { λ r. ⌜ Wrote (now (out .entry)) at (each (cellOf (tuplesIn (now (inner .entry)) (now (ks .entry)) (now (rows .entry)))) 4 count (now (columns .entry))) (now (out .exit)) r ⌝ }
+    ensures { λ r.
+        ⌜ Wrote (now (out .entry)) at
+        (each (cellOf (tuplesIn (now (inner .entry)) (now (ks .entry)) (now (rows .entry)))) 4 count (now (columns .entry)))
+        (now (out .exit)) r ⌝ }
 {
     let n = tuples::tuple_each(inner, ks, rows, flat);
     push_row(columns, count, &flat[..n], out, at)
@@ -148,7 +151,10 @@ fn row(
     requires { ⌜ i ≤ 4096 ⌝ }
     requires { ⌜ length (now rows) ≡ 12 ⌝ }
     requires { ⌜ length (now flat) ≡ 6 ⌝ }
-    ensures { λ r. ⌜ Wrote (now (out .entry)) at (rowBy (now (columns .entry)) count (now (outer .entry)) (now (ks .entry)) (now (inner .entry)) i) (now (out .exit)) r ⌝ }
+    ensures { λ r.
+        ⌜ Wrote (now (out .entry)) at
+        (rowBy (now (columns .entry)) count (now (outer .entry)) (now (ks .entry)) (now (inner .entry)) i)
+        (now (out .exit)) r ⌝ }
 {
     let n = ks.len();
     tuples::tuple(outer, 0, n, i, rows, 0);
@@ -171,7 +177,10 @@ pub fn push_rows(
     requires { ⌜ size ≤ 4096 ⌝ }
     requires { ⌜ length (now rows) ≡ 12 ⌝ }
     requires { ⌜ length (now flat) ≡ 6 ⌝ }
-    ensures { λ r. ⌜ Wrote (now (out .entry)) at (flatMap (rowBy (now (columns .entry)) count (now (outer .entry)) (now (ks .entry)) (now (inner .entry))) (upFrom 0 size)) (now (out .exit)) r ⌝ }
+    ensures { λ r.
+        ⌜ Wrote (now (out .entry)) at
+        (flatMap (rowBy (now (columns .entry)) count (now (outer .entry)) (now (ks .entry)) (now (inner .entry))) (upFrom 0 size))
+        (now (out .exit)) r ⌝ }
 {
     let mut left = size;
     let mut i: u32 = 0;

@@ -112,7 +112,11 @@ fn push_type(t: &[u32], c: &[u32], a: u32, out: &mut [u32], at: usize) -> usize
 pub fn push_types(t: &[u32], c: &[u32], out: &mut [u32], at: usize) -> usize
     requires { ⌜ Walkable (now t) ⌝ }
     requires { ⌜ Small (now c) ⌝ }
-    ensures { λ r. ⌜ Wrote (now (out .entry)) at (flatMap cellsOfType (map (typeValues (diagramOf (now (t .entry))) (now (c .entry))) (upFrom 0 (length (diagramOf (now (t .entry)) .types))))) (now (out .exit)) r ⌝ }
+    ensures { λ r.
+        ⌜ Wrote (now (out .entry)) at
+        (flatMap cellsOfType
+        (map (typeValues (diagramOf (now (t .entry))) (now (c .entry))) (upFrom 0 (length (diagramOf (now (t .entry)) .types)))))
+        (now (out .exit)) r ⌝ }
 {
     let mut left = table::type_count(t);
     let mut a: u32 = 0;

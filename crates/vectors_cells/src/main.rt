@@ -46,7 +46,7 @@ fn push_outcome(out: &mut [u8], answer: ValidateAnswer) -> usize {
             table::index(number),
         ),
         ValidateAnswer::Refused { fault, line } => {
-            command::push_refusal(out, command::number_of(fault), line, 0)
+            command::push_refusal(out, grammar::number_of(fault), line, 0)
         }
         ValidateAnswer::CellsEnd { at } => command::push_refusal(out, 9, at, 0),
     }

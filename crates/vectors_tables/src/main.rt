@@ -58,7 +58,7 @@ fn push_outcome(out: &mut [u8], form: Form, length: usize) -> usize {
 
 fn refused(fault: grammar::Fault, line: usize) -> Form {
     Form {
-        number: command::number_of(fault),
+        number: grammar::number_of(fault),
         line,
     }
 }

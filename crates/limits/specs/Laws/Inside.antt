@@ -21,7 +21,7 @@ use Rattle.orm.specs.Sets.{firstPred, firstRole, firstGroup, upper, select, rol
 use Rattle.orm.specs.Sets.{groupSet, groupRoles, Part, groupPart, rolePart, parts, atMost, onlyIf, limitsOfRole, limitsOfGroup}
 use Rattle.orm.specs.Sets.{limitOfRows, limitsOfPred, limitsOfType, limits}
 use Rattle.orm.specs.WellFormed.{TypeForm, PredForm, WellFormed}
-use Rattle.limits.specs.Laws.Room.{upper-length}
+use Rattle.orm.specs.Laws.Bounds.{length-upper}
 
 -- ---- limits and operands among the first n sets
 
@@ -121,7 +121,7 @@ module _ (d : Diagram) (w : WellFormed d) where
   type-inside : (a : ℕ) (t : ObjectType) → At t (d .types) a → Each (Inside (length (upper d))) (limitsOfType d a t)
   unfolding limitsOfType rolesOfType firstRole firstPred operandsOf
   type-inside a t m =
-      let e = upper-length d w in
+      let e = length-upper d in
       let own : a < length (upper d) = omega (arith, e, at-below m) in
       let super : index (t .super) < length (upper d) = omega (arith, each-from-at TypeForm 1 (w .types) m .above) in
       each-append _ _ _ (each-onlyIf (not (isRoot t)) (λ _. inside-atMost own super))
@@ -131,7 +131,7 @@ module _ (d : Diagram) (w : WellFormed d) where
   all-fit : Each (Fits (length (upper d)) (length (d .types))) (placed d)
   unfolding placed firstPred firstRole firstGroup allRoles allGroups
   all-fit =
-      let e = upper-length d w in
+      let e = length-upper d in
       placed-fit (omega arith) (firstPred d) (firstRole d) (firstGroup d) (d .preds) (omega arith) (omega arith) (omega arith) (w .preds)
 
   pub limits-inside : Each (Inside (length (upper d))) (limits d)

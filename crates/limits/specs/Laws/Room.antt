@@ -1,8 +1,8 @@
--- How much room the bounds and the limits of a well-formed diagram take, and that its upper bounds are small.
-use Prim.Native.Nat.{ℕ, suc, _+_, _*_, _-_, _≤_, min}
+-- How much room the limits of a well-formed diagram take.
+use Prim.Native.Nat.{ℕ, suc, _+_, _*_, _-_, _≤_}
 use native.Mathlib.Nat.{mul-suc}
 use native.Mathlib.Omega.{arith}
-use mathlib.Core.Path.{_≡_, refl, sym, ap, _∙_}
+use mathlib.Core.Path.{_≡_, refl, ap, _∙_}
 use mathlib.Core.Bool.{Bool, true, false, not}
 use lib.Dec.{eqb}
 use mathlib.Core.List.{List, [], _∷_, _++_, map, flatMap, flatten, List·Memᴰ·head as here, List·Memᴰ·tail as there}
@@ -13,60 +13,12 @@ use Rattle.counting.specs.Lists.{upFrom, mapFrom}
 use Rattle.fixpoint.specs.Limits.{Limit, product, sum}
 use Rattle.counting.specs.Terms.{Each}
 use Rattle.counting.specs.Laws.Range.{length-upFrom}
-use Rattle.orm.specs.WellFormed.{TypeForm, PredForm, WellFormed}
-use Rattle.orm.specs.Sets.{firstPred, firstRole, firstGroup, lower, upper, upperOfType, select, rolesOfType, rolesInGroup, Placed}
+use Rattle.orm.specs.WellFormed.{PredForm, WellFormed}
+use Rattle.orm.specs.Sets.{firstPred, firstRole, firstGroup, select, rolesOfType, rolesInGroup, Placed}
 use Rattle.orm.specs.Sets.{placedFrom, placed, groupSet, groupRoles, Part, groupPart, rolePart, parts, atMost, onlyIf, limitsOfRole}
 use Rattle.orm.specs.Sets.{limitsOfGroup, limitOfRows, limitsOfPred, limitsOfType, limits}
 use Rattle.lowering.specs.Encoding.{encodeExpr, encode}
-use Rattle.table.specs.Valid.{Under}
-use Rattle.table.specs.Laws.Valid.{under-nil, under-cons, under-append, each-of}
 use Rattle.lowering.specs.Laws.Decoding.{encode-append}
-
--- ---- the bounds
-
-module _ (d : Diagram) (w : WellFormed d) where
-  pub lower-length : length (lower d) ≡ length (d .types) + length (d .preds) + length (allRoles d) + length (allGroups d)
-  unfolding lower
-  lower-length = simp (length-append, length-map)
-
-  pub upper-length : length (upper d) ≡ length (d .types) + length (d .preds) + length (allRoles d) + length (allGroups d)
-  unfolding upper
-  upper-length = simp (length-append, length-map)
-
-  pub lower-fits : length (lower d) ≤ 208
-  lower-fits = omega (arith, lower-length, w .typeCount .1, w .predCount .1, w .roleCount, w .groupCount)
-
-  pub upper-fits : length (upper d) ≤ 208
-  upper-fits = omega (arith, upper-length, w .typeCount .1, w .predCount .1, w .roleCount, w .groupCount)
-
-  pub as-many : length (lower d) ≡ length (upper d)
-  as-many = lower-length ∙ sym upper-length
-
-under-map : {A : Type 0} (b : ℕ) (f : A → ℕ) (xs : List A) → Each (λ (a : A). f a ≤ b) xs → Under b (map f xs)
-under-map b f [] h = under-nil b
-under-map b f (x ∷ xs) h = under-cons (h x (here refl)) (under-map b f xs (λ a m. h a (there m)))
-
-type-upper : (n : ℕ) (t : ObjectType) → TypeForm n t → upperOfType t ≤ 4096
-unfolding upperOfType
-type-upper n t f = go (isRoot t)
-  where
-    go : (b : Bool) → elim b [ true ↦ min (t .max) (t .last - t .first + 1) | false ↦ t .max ] ≤ 4096
-    go true = omega (arith, f .most)
-    go false = f .most
-
-module _ (d : Diagram) (w : WellFormed d) where
-  pub upper-under : Under 4096 (upper d)
-  unfolding upper
-  upper-under =
-      under-append _ _
-      (under-append _ _
-      (under-append _ _
-      (under-map 4096 upperOfType (d .types) (each-of TypeForm _ type-upper 1 (d .types) (w .types)))
-      (under-map 4096 (λ (p : Predicate). p .max) (d .preds) (λ p m. w .preds p m .most)))
-      (under-map 4096 (λ (r : Role). 4096) (allRoles d) (λ r m. omega arith)))
-      (under-map 4096 (λ (f : Frequency). 4096) (allGroups d) (λ f m. omega arith))
-
--- ---- the limits
 
 abbrev size : List Limit → ℕ
 size ls = length (encode ls)

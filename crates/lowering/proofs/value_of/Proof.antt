@@ -1,7 +1,7 @@
 -- `lowering::value_of` meets its contract. The part of the limits that is handed on has the limit's operands.
 -- Assumes nothing.
 use Rattle.lowering.proofs.Step.{value-part}
-use Rattle.lowering.specs.Laws.Closed.{whole-header, whole-operands}
+use Rattle.lowering.specs.Laws.Closed.{whole-operands}
 use borrow.Author.Needs.{needs}
 use Rattle.lowering.proofs.value_of.Statement.{statement}
 use Rattle.lowering.proofs.value_of.Tie as tie

@@ -1,24 +1,21 @@
 -- What a whole limit has, and that limits which speak of the first n sets alone are whole when they are encoded.
-use Prim.Native.Nat.{ℕ, zero, suc, _+_, _-_, _≤_, _<_}
+use Prim.Native.Nat.{ℕ, _+_, _-_, _≤_, _<_}
 use mathlib.Core.Path.{_≡_, refl, sym, ap, subst, subst⁻¹, _∙_}
-use mathlib.Core.List.{List, [], _∷_, _++_, append-assoc, List·Memᴰ·head as here, List·Memᴰ·tail as there}
-use mathlib.Core.List.{Memᴰ·append-left, Memᴰ·append-right}
+use mathlib.Core.List.{List, [], _∷_, _++_, append-assoc, List·Memᴰ·head as here, Memᴰ·append-right}
 use native.Mathlib.Omega.{arith}
-use lib.ListN.{length, getD, take, drop, length-append, length-take, length-drop}
+use lib.ListN.{length, getD, take, drop, length-append, length-take, length-drop, List·getD-append}
 use lib.Seq.{getD-append-seam, getD-append-add, getD-take, getD-drop}
 use Rattle.counting.specs.Terms.{_∈_, Each}
+use Rattle.counting.specs.Laws.Members.{getD-in}
 use Rattle.fixpoint.specs.Limits.{Limit}
 use Rattle.lowering.specs.Encoding.{encodeExpr, encode}
-use Rattle.lowering.specs.Closed.{operandsOf, Inside, Start, first, behind, Among, Fed, Whole, Closed}
-use Rattle.lowering.specs.Laws.Decoding.{Shape, shape, encode-append}
+use Rattle.lowering.specs.Closed.{Inside, Start, first, behind, Fed, Whole, Closed}
+use Rattle.lowering.specs.Laws.Decoding.{shape, encode-append}
 
 -- ---- the numbers of a whole limit
 
+-- the operands are a part of the numbers
 module _ {xs : List ℕ} {n p : ℕ} (w : Whole xs n p) where
-  pub whole-header : p + 4 ≤ length xs
-  whole-header = omega (arith, w .room)
-
-  -- the operands are a part of the numbers
   pub whole-operands : {e : ℕ} → e ≡ p + 4 + getD xs (p + 3) 0 → Fed n (getD xs p 0) (take (e - (p + 4)) (drop (p + 4) xs))
   whole-operands {e} q =
       let count : e - (p + 4) ≡ getD xs (p + 3) 0 = omega arith in
@@ -35,16 +32,6 @@ module _ {xs : List ℕ} {n p : ℕ} (w : Whole xs n p) where
 
 -- ---- limits that are encoded
 
-at-each : {n : ℕ} (ss : List ℕ) → Each (λ (s : ℕ). s < n) ss → (k : ℕ) → k < length ss → getD ss k 0 < n
-at-each [] h k l = absurd (omega arith)
-at-each (s ∷ ss) h zero l = h s (here refl)
-at-each (s ∷ ss) h (suc k) l = at-each ss (λ a m. h a (there m)) k (omega arith)
-
-at-front : (ss rest : List ℕ) (k : ℕ) → k < length ss → getD (ss ++ rest) k 0 ≡ getD ss k 0
-at-front [] rest k l = absurd (omega arith)
-at-front (s ∷ ss) rest zero l = refl
-at-front (s ∷ ss) rest (suc k) l = at-front ss rest k (omega arith)
-
 module _ (pre : List ℕ) (k t f : ℕ) (ss rest : List ℕ) where
   tail : List ℕ
   tail = k ∷ t ∷ f ∷ length ss ∷ (ss ++ rest)
@@ -58,7 +45,7 @@ module _ (pre : List ℕ) (k t f : ℕ) (ss rest : List ℕ) where
   whole-at {n} ht hs hk = record {
     room = omega (arith, count-at, length-append pre tail, length-append ss rest);
     target = subst⁻¹ (λ (s : ℕ). s < n) (getD-append-add pre tail 1 0) ht;
-    operands = λ i h. subst⁻¹ (λ (s : ℕ). s < n) (operand i (omega (arith, count-at))) (at-each ss hs i (omega (arith, count-at)));
+    operands = λ i h. subst⁻¹ (λ (s : ℕ). s < n) (operand i (omega (arith, count-at))) (hs (getD ss i 0) (getD-in ss i 0 (omega (arith, count-at))));
     some = λ h. omega (arith, count-at, hk (subst (λ (m : ℕ). 2 ≤ m) (getD-append-seam pre k (t ∷ f ∷ length ss ∷ (ss ++ rest)) 0) h));
   }
     where
@@ -66,7 +53,7 @@ module _ (pre : List ℕ) (k t f : ℕ) (ss rest : List ℕ) where
       operand i h =
           let z : length pre + 4 + i ≡ length pre + (4 + i) = omega arith in
           ap (λ (j : ℕ). getD (pre ++ tail) j 0) z ∙ getD-append-add pre tail (4 + i) 0
-          ∙ getD-append-add (k ∷ t ∷ f ∷ length ss ∷ []) (ss ++ rest) i 0 ∙ at-front ss rest i h
+          ∙ getD-append-add (k ∷ t ∷ f ∷ length ss ∷ []) (ss ++ rest) i 0 ∙ List·getD-append ss rest 0 i h
 
 -- The limits before an index, and those from there on
 record Split (ls : List Limit) (p : ℕ) : Type 0 where

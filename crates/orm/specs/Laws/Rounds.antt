@@ -3,19 +3,15 @@ use Prim.Native.Nat.{ℕ, _≤_}
 use mathlib.Core.Path.{_≡_}
 use mathlib.Core.List.{List}
 use native.Mathlib.Omega.{arith}
-use lib.ListN.{length, length-append, length-map}
 use Rattle.fixpoint.specs.Limits.{unsatisfiable, fixpoint}
 use Rattle.fixpoint.specs.Laws.{RunLaws, run-laws}
 use Rattle.orm.specs.Diagram.{Diagram}
 use Rattle.orm.specs.Sets.{lower, upper, limits, mostRounds, verdict}
-
-bounds-length : (d : Diagram) → length (lower d) ≡ length (upper d)
-unfolding lower upper
-bounds-length d = simp (length-append, length-map)
+use Rattle.orm.specs.Laws.Bounds.{bounds-paired}
 
 -- `verdict d` is `run (limits d) (lower d) (upper d)`
 pub verdict-laws : (d : Diagram) → RunLaws (limits d) (lower d) (upper d)
-verdict-laws d = run-laws (limits d) (lower d) (upper d) (bounds-length d)
+verdict-laws d = run-laws (limits d) (lower d) (upper d) (bounds-paired d)
 
 -- Rounds, emptied or settled, are at most so many
 pub unsatisfiable-within : (d : Diagram) {s n : ℕ} → verdict d ≡ unsatisfiable s n → n ≤ mostRounds d

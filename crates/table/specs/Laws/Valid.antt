@@ -3,9 +3,9 @@ use Prim.Native.Nat.{ℕ, zero, suc, _+_, _*_, _≤_}
 use native.Mathlib.Omega.{arith}
 use mathlib.Core.Path.{_≡_, refl, ap, subst⁻¹, _∙_}
 use mathlib.Core.List.{List, [], _∷_, _++_, map, flatMap, List·Memᴰ·head as here, List·Memᴰ·tail as there}
-use lib.ListN.{length, getD, drop, length-append, length-map}
+use lib.ListN.{length, getD, drop}
 use Rattle.orm.specs.Diagram.{ObjectType, Role, Frequency, Predicate, Diagram, Line, lineOfType, lineOfRole, lineOfGroup, lineOfPred}
-use Rattle.orm.specs.Diagram.{linesOfPred, lineOfCount, allRoles, allGroups, lines, table}
+use Rattle.orm.specs.Diagram.{linesOfPred, lineOfCount, allRoles, lines, table}
 use Rattle.orm.specs.Form.{typeOf}
 use Rattle.orm.specs.Sets.{upper}
 use Rattle.orm.specs.Text.{tableLine}
@@ -16,6 +16,7 @@ use Rattle.orm.specs.Calls.{diagramIn}
 use Rattle.orm.specs.WellFormed.{TypeForm, RoleForm, GroupForm, PredForm, WellFormed}
 use Rattle.reading.specs.TextLength.{first-small}
 use Rattle.reading.specs.Laws.{table-accepted-iff}
+use Rattle.orm.specs.Laws.Bounds.{length-upper}
 use Rattle.table.specs.Valid.{Valid, Under}
 use Rattle.table.specs.Positions.{predsLength, typeCount, predCount, firstPredAt, diagramOf, Walkable}
 use Rattle.table.specs.Laws.Walks.{each-length, preds-length}
@@ -145,12 +146,8 @@ valid-walkable {t} v =
     }
 
 -- types, predicates, roles and groups
-set-count : (d : Diagram) → length (upper d) ≡ length (d .types) + length (d .preds) + length (allRoles d) + length (allGroups d)
-unfolding upper
-set-count d = simp (length-append, length-map)
-
 -- A valid table has more than twice as many numbers as its diagram has sets
 pub sets-few : (t : List ℕ) → Valid t → 2 * length (upper (diagramOf t)) + 4 ≤ length t
 sets-few t v =
     let whole : length t ≡ length (table (diagramOf t)) = ap length (table-accepted-iff t (diagramOf t) .0 (v .reads) .0) in
-    omega (arith, whole, table-length (diagramOf t), set-count (diagramOf t))
+    omega (arith, whole, table-length (diagramOf t), length-upper (diagramOf t))

@@ -1,0 +1,51 @@
+-- How many lower and upper bounds a diagram has, and how large the upper ones are.
+use Prim.Native.Nat.{ℕ, _+_, _-_, _≤_, min}
+use native.Mathlib.Omega.{arith}
+use mathlib.Core.Path.{_≡_, sym, _∙_}
+use mathlib.Core.Bool.{Bool, true, false}
+use lib.ListN.{length, length-append, length-map}
+use Rattle.counting.specs.Terms.{Each}
+use Rattle.counting.specs.Laws.Members.{each-append, each-map}
+use Rattle.counting.specs.Laws.Index.{in-at, each-from-at}
+use Rattle.orm.specs.Diagram.{ObjectType, Role, Frequency, Predicate, Diagram, isRoot, allRoles, allGroups}
+use Rattle.orm.specs.WellFormed.{TypeForm, WellFormed}
+use Rattle.orm.specs.Sets.{lower, upper, upperOfType}
+
+module _ (d : Diagram) where
+  -- as many as there are sets
+  pub length-lower : length (lower d) ≡ length (d .types) + length (d .preds) + length (allRoles d) + length (allGroups d)
+  unfolding lower
+  length-lower = simp (length-append, length-map)
+
+  pub length-upper : length (upper d) ≡ length (d .types) + length (d .preds) + length (allRoles d) + length (allGroups d)
+  unfolding upper
+  length-upper = simp (length-append, length-map)
+
+  pub bounds-paired : length (lower d) ≡ length (upper d)
+  bounds-paired = length-lower ∙ sym length-upper
+
+type-small : (n : ℕ) (t : ObjectType) → TypeForm n t → upperOfType t ≤ 4096
+unfolding upperOfType
+type-small n t f = go (isRoot t)
+  where
+    go : (b : Bool) → elim b [ true ↦ min (t .max) (t .last - t .first + 1) | false ↦ t .max ] ≤ 4096
+    go true = omega (arith, f .most)
+    go false = f .most
+
+module _ (d : Diagram) (w : WellFormed d) where
+  pub lower-few : length (lower d) ≤ 208
+  lower-few = omega (arith, length-lower d, w .typeCount .1, w .predCount .1, w .roleCount, w .groupCount)
+
+  pub upper-few : length (upper d) ≤ 208
+  upper-few = omega (arith, length-upper d, w .typeCount .1, w .predCount .1, w .roleCount, w .groupCount)
+
+  pub upper-small : Each (_≤ 4096) (upper d)
+  unfolding upper
+  upper-small =
+      each-append _ _ _
+      (each-append _ _ _
+      (each-append _ _ _
+      (each-map _ upperOfType (d .types) (λ t m. let (i, at) = in-at m in type-small (1 + i) t (each-from-at TypeForm 1 (w .types) at)))
+      (each-map _ (λ (p : Predicate). p .max) (d .preds) (λ p m. w .preds p m .most)))
+      (each-map _ (λ (r : Role). 4096) (allRoles d) (λ r m. omega arith)))
+      (each-map _ (λ (f : Frequency). 4096) (allGroups d) (λ f m. omega arith))

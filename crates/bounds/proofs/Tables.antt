@@ -7,9 +7,9 @@ use lib.ListN.{length, take, length-map}
 use lib.Seq.{length-take-le}
 use Rattle.orm.specs.Diagram.{Role, Diagram, Totals, totals, allRoles, allGroups}
 use Rattle.orm.specs.Text.{tableLine}
-use Rattle.orm.specs.Sets.{firstPred, firstRole, lower, upper, limits, verdict}
+use Rattle.orm.specs.Sets.{firstPred, firstRole, lower, upper, limits, verdict, verdictFrom}
 use Rattle.orm.specs.Outcome.{Outcome, refused, accepted, _>>=_, fitted, bufferAfter, Sized, written, handedBack}
-use Rattle.orm.specs.Calls.{diagramIn, sizesOf, settledInto, checkCall}
+use Rattle.orm.specs.Calls.{diagramIn, sizesBy, settledInto, checkCall}
 use Rattle.fixpoint.specs.Limits.{Verdict, unsatisfiable, fixpoint, run}
 use Rattle.grammar.specs.Fault.{numberOf}
 use Rattle.reader.specs.Answer.{formOf, totalled}
@@ -46,7 +46,7 @@ module _ (t b : List ℕ) {r : FormAnswer} {f : Fault} {line : ℕ} (p : r ≡ f
     (e : formOf r ≡ totalled (diagramIn tableLine t)) where
   call-refused : checkCall t (length b) ≡ refused (numberOf f) line 0
   unfolding checkCall
-  call-refused = ap (λ (o : Outcome Diagram). o >>= λ d. settledInto (λ c. c) d (length b)) (refused-is (diagramIn tableLine t) p e)
+  call-refused = ap (λ (o : Outcome Diagram). o >>= λ d. settledInto 7 (λ c. c) (verdict d) (length b)) (refused-is (diagramIn tableLine t) p e)
 
   pub table-refused : checkOf (Refused f line) ≡ handedBack (checkCall t (length b))
   table-refused = ap handedBack (sym call-refused)
@@ -99,26 +99,11 @@ module _ (t : List ℕ) {r : FormAnswer} {a b c d : ℕ} (p : r ≡ forms.Accept
 pub front-count : (l : List ℕ) (m : ℕ) → m ≤ length l → m ≡ length (take m l)
 front-count l m h = sym (length-take-le m l h)
 
--- the steps behind the reading, and behind the verdict
-abbrev fittedIn : ℕ → Outcome Sized → Outcome Sized
-fittedIn space o = o >>= λ s. fitted space (s .result) >>= λ w. accepted (record { rounds = s .rounds; result = w })
-
-settled-is : (d : Diagram) (space : ℕ) → settledInto (λ c. c) d space ≡ ended (verdict d) space
-unfolding settledInto sizesOf ended
-settled-is d space = go (verdict d)
-  where
-    go : (v : Verdict)
-        → fittedIn space (elim v as (λ _. Outcome Sized) [
-          | unsatisfiable s round ↦ refused 7 (suc s) round
-          | fixpoint n c ↦ accepted (record {
-            rounds =
-                n;
-            result = c;
-          })
-        ])
-        ≡ ended v space
-    go (unsatisfiable s n) = refl
-    go (fixpoint n c) = refl
+-- the steps behind the verdict
+settled-is : (v : Verdict) (space : ℕ) → settledInto 7 (λ c. c) v space ≡ ended v space
+unfolding settledInto sizesBy ended
+settled-is (unsatisfiable s n) space = refl
+settled-is (fixpoint n c) space = refl
 
 module _ {t : List ℕ} {roles groups : ℕ} (known : Known t roles groups) where
   v : Valid t
@@ -127,7 +112,7 @@ module _ {t : List ℕ} {roles groups : ℕ} (known : Known t roles groups) wher
   check-is : (space : ℕ) → checkCall t space ≡ ended (verdict (diagramOf t)) space
   unfolding checkCall
   check-is space =
-      ap (λ (o : Outcome Diagram). o >>= λ d. settledInto (λ c. c) d space) (v .reads) ∙ settled-is (diagramOf t) space
+      ap (λ (o : Outcome Diagram). o >>= λ d. settledInto 7 (λ c. c) (verdict d) space) (v .reads) ∙ settled-is (verdict (diagramOf t)) space
 
   -- the limits, where there was room for them
   pub limits-fill : {l l′ : List ℕ} {m : ℕ} → length l ≡ 6752 → Wrote l 0 (encode (limits (diagramOf t))) l′ m → m ≤ length l′
@@ -177,7 +162,7 @@ module _ {t : List ℕ} {roles groups : ℕ} (known : Known t roles groups) wher
 
       pub checked : {ls s s′ : List ℕ} {r : CheckAnswer} → Limits t ls
           → Answered (ended (run (decode ls) l (take k b′)) (length s)) r s s′ → Answered (checkCall t (length s)) r s s′
-      unfolding verdict
+      unfolding verdictFrom
       checked {s = s} e h =
           rw (check-is (length s))
           (rw (ap decode (e .are) ∙ decode-encode (limits (diagramOf t)), low .are, wrote-front w upper-room) at h)

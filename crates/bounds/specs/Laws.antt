@@ -8,14 +8,14 @@ use Rattle.counting.specs.Laws.Members.{each-getD}
 use Rattle.fixpoint.specs.Limits.{fixpoint}
 use Rattle.fixpoint.specs.Notions.{Solution}
 use Rattle.orm.specs.Diagram.{Diagram}
-use Rattle.orm.specs.Sets.{upper, limits, verdict}
+use Rattle.orm.specs.Sets.{upper, limits, verdict, verdictFrom}
 use Rattle.orm.specs.WellFormed.{WellFormed}
 use Rattle.orm.specs.Laws.Rounds.{verdict-laws}
 use Rattle.orm.specs.Laws.Bounds.{upper-few, upper-small}
 
 module _ (d : Diagram) (w : WellFormed d) {n : ℕ} {c : List ℕ} (e : verdict d ≡ fixpoint n c) where
   solution : Solution (limits d) (upper d) c
-  unfolding verdict
+  unfolding verdictFrom
   solution = verdict-laws d .at-fixpoint e .solution
 
   -- as many as there are sets

@@ -6,16 +6,16 @@
 use Prim.Native.Nat.{ℕ}
 use mathlib.Core.Path.{_≡_, refl}
 use mathlib.Core.List.{List}
-use native.Mathlib.Nat.{le-refl}
 use Rattle.counting.specs.Terms.{_∈_}
 use Rattle.fixpoint.specs.Limits.{fixpoint}
+use Rattle.fixpoint.specs.Laws.Order.{≼-trans}
 use Rattle.orm.specs.Constraints.{sizes}
 use Rattle.orm.specs.Diagram.{Diagram, Predicate}
 use Rattle.orm.specs.Meaning.{EachPred, Meets, ValidPopulation}
 use Rattle.orm.specs.Populate.{population, rows}
 use Rattle.orm.specs.Population.{cells}
-use Rattle.orm.specs.Sets.{Placed, placed, verdict}
-use Rattle.orm.specs.Laws.Rounds.{verdict-laws}
+use Rattle.orm.specs.Sets.{Placed, placed, verdictFrom}
+use Rattle.orm.specs.Laws.Rounds.{Inside, inside-laws}
 use Rattle.orm.specs.Laws.Shape.{population-shaped}
 use Rattle.orm.specs.WellFormed.{WellFormed}
 use Rattle.complete.specs.Place.{each-pred}
@@ -58,9 +58,15 @@ module _ (d : Diagram) (c : List ℕ) (s : Solved d c) where
     exact = sizes-again s;
   }
 
--- The sizes that the rounds end with are a solution
-pub fixpoint-solved : {d : Diagram} {n : ℕ} {c : List ℕ} → WellFormed d → verdict d ≡ fixpoint n c → Solved d c
-unfolding verdict
-fixpoint-solved {d} {n} form e =
-    let f = verdict-laws d .at-fixpoint e in
-    record { form = form; above = rw (← f .stands) at (f .above n (le-refl n)); below = f .solution .under; satisfied = f .solution .limits }
+-- The sizes that rounds from bounds inside the diagram's own end with are a solution
+pub fixpoint-solved : {d : Diagram} {low high : List ℕ} {n : ℕ} {c : List ℕ} → WellFormed d → Inside d low high
+    → verdictFrom d low high ≡ fixpoint n c → Solved d c
+unfolding verdictFrom
+fixpoint-solved {n = n} {c = c} form i e =
+    let (above, g) = inside-laws i .fixpoint-iff c .0 (n, e) in
+    record {
+      form = form;
+      above = ≼-trans (i .lower-≼) above;
+      below = ≼-trans (g .solution .under) (i .≼-upper);
+      satisfied = g .solution .limits;
+    }

@@ -12,7 +12,7 @@ use Rattle.counting.specs.Laws.Index.{in-at, at-getD, at-below}
 use Rattle.fixpoint.specs.Limits.{slack, unsatisfiable, fixpoint}
 use Rattle.fixpoint.specs.Notions.{_≼_, FirstBelow}
 use Rattle.orm.specs.Diagram.{Diagram}
-use Rattle.orm.specs.Sets.{lower, upper, mostRounds, verdict}
+use Rattle.orm.specs.Sets.{lower, upper, mostRounds, verdict, verdictFrom}
 use Rattle.orm.specs.WellFormed.{WellFormed}
 use Rattle.orm.specs.Laws.Bounds.{lower-few, upper-few, upper-small}
 use Rattle.orm.specs.Laws.Rounds.{verdict-laws, unsatisfiable-within, fixpoint-within}
@@ -51,7 +51,7 @@ module _ (d : Diagram) (form : WellFormed d) where
     settled-rounds = omega (arith, fixpoint-within d e, rounds-at-most)
 
     settled-under : c ≼ upper d
-    unfolding verdict
+    unfolding verdictFrom
     settled-under = verdict-laws d .at-fixpoint e .solution .under
 
     pub settled-few : length c ≤ 208
@@ -65,5 +65,5 @@ module _ (d : Diagram) (form : WellFormed d) where
     emptied-rounds = omega (arith, unsatisfiable-within d e, rounds-at-most)
 
     pub emptied-set : s < 208
-    unfolding verdict
+    unfolding verdictFrom
     emptied-set = omega (arith, first-below-inside (lower d) _ s (verdict-laws d .at-unsatisfiable e .first), lower-few)

@@ -23,6 +23,7 @@ use Rattle.orm.specs.WellFormed.{TypeForm, PredForm, WellFormed}
 use Rattle.orm.specs.Laws.Shape.{flatten-length}
 use Rattle.reading.specs.Laws.{table-accepted-iff, accepted-or-fault}
 use Rattle.complete.specs.Laws.{population-laws, fixpoint-solved}
+use Rattle.orm.specs.Laws.Rounds.{own-bounds}
 use Rattle.guarantee.specs.Ends.{sized, populate-ends, settled-unsatisfiable, settled-fixpoint}
 
 -- a size cell and at most 4,096 values for each type
@@ -81,7 +82,7 @@ module _ (d : Diagram) (form : WellFormed d) where
 
   -- Of the population made from the settled sizes: 'the fill the cells'
   pub cells-at-most : {n : ℕ} {c : List ℕ} → verdict d ≡ fixpoint n c → length (cells (population d c)) ≤ 524352
-  cells-at-most {n} {c} e = valid-cells-at-most (population-laws d c (fixpoint-solved form e) .valid)
+  cells-at-most {n} {c} e = valid-cells-at-most (population-laws d c (fixpoint-solved form (own-bounds d) e) .valid)
 
 -- The length of what a call hands back, or the length that refusal 8 asks for
 abbrev pub LengthAtMost : ℕ → Outcome Sized → Type 0
@@ -106,7 +107,7 @@ populate-at-most t space =
     settled : (d : Diagram) → diagramIn tableLine t ≡ accepted d → (v : Verdict) → verdict d ≡ v
         → LengthAtMost 524352 (populateCall t space)
     settled d e (unsatisfiable s n) v =
-        rw (populate-ends t d e space ∙ settled-unsatisfiable _ d space v) (λ q. absurd (omega arith))
+        rw (populate-ends t d e space ∙ settled-unsatisfiable _ _ space v) (λ q. absurd (omega arith))
     settled d e (fixpoint n c) v =
-        rw (populate-ends t d e space ∙ settled-fixpoint _ d space v)
+        rw (populate-ends t d e space ∙ settled-fixpoint _ _ space v)
         (fitted-at-most 524352 n space (cells (population d c)) (cells-at-most d (table-accepted-iff t d .0 e .1) v))

@@ -19,7 +19,7 @@ use Rattle.orm.specs.Sets.{verdict}
 use Rattle.orm.specs.Population.{Population, cellsOfType, cellsOfPred, cells}
 use Rattle.orm.specs.Populate.{population}
 use Rattle.orm.specs.Outcome.{Outcome, refused, accepted, _>>=_, fitted}
-use Rattle.orm.specs.Calls.{diagramIn, sizesOf}
+use Rattle.orm.specs.Calls.{diagramIn, sizesBy, sizesOf}
 use Rattle.orm.specs.Program.{predText, report, reported, output, program}
 use Rattle.orm.specs.Meaning.{Between, Rows, Shaped}
 use Rattle.orm.specs.WellFormed.{WellFormed}
@@ -28,6 +28,7 @@ use Rattle.reading.specs.Laws.{text-accepted-iff, accepted-or-fault, fits, does
 use Rattle.sound.specs.Laws.{valid-small}
 use Rattle.sound.specs.Positions.{preds-length}
 use Rattle.complete.specs.Laws.{population-laws, fixpoint-solved}
+use Rattle.orm.specs.Laws.Rounds.{own-bounds}
 use Rattle.extent.specs.Cells.{cells-at-most}
 use Rattle.extent.specs.Bounds.{settled-rounds, settled-few, settled-small, emptied-rounds, emptied-set}
 use Rattle.extent.specs.Places.{line-at-most}
@@ -142,7 +143,7 @@ module _ (d : Diagram) (form : WellFormed d) where
             refusal-printed 8 (length (cells (population d c))) 0 (omega arith) needed (omega arith),
           )
       go (no fit) =
-          let v = population-laws d c (fixpoint-solved form e) .valid in
+          let v = population-laws d c (fixpoint-solved form (own-bounds d) e) .valid in
           let few : length (cells (population d c)) ≤ 16000 = omega arith in
           let rounds-small : n ≤ 999999 = omega (arith, settled-rounds d form e) in
           omega (
@@ -154,7 +155,7 @@ module _ (d : Diagram) (form : WellFormed d) where
           )
 
 printed : (input : List ℕ) → length (program input) ≤ 194510
-unfolding program reported sizesOf output
+unfolding program reported sizesOf sizesBy output
 printed input = ⊎-elim (λ (d, e). of-diagram d e (verdict d) refl) of-fault (accepted-or-fault textLine (take 4096 input))
   where
     of-diagram : (d : Diagram) → diagramIn textLine (take 4096 input) ≡ accepted d → (v : Verdict) → verdict d ≡ v
@@ -163,8 +164,8 @@ printed input = ⊎-elim (λ (d, e). of-diagram d e (verdict d) refl) of-fault (
         let form : WellFormed d = text-accepted-iff (take 4096 input) d .0 e .1 in
         let set-small : suc s ≤ 999999 = omega (arith, emptied-set d form q) in
         let round-small : n ≤ 999999 = omega (arith, emptied-rounds d form q) in
-        rw (e, reported, q, sizesOf) (omega (arith, refusal-printed 7 (suc s) n (omega arith) set-small round-small))
-    of-diagram d e (fixpoint n c) q = rw (e, reported, q, sizesOf) (settled-printed d (text-accepted-iff (take 4096 input) d .0 e .1) q)
+        rw (e, reported, q, sizesOf, sizesBy) (omega (arith, refusal-printed 7 (suc s) n (omega arith) set-small round-small))
+    of-diagram d e (fixpoint n c) q = rw (e, reported, q, sizesOf, sizesBy) (settled-printed d (text-accepted-iff (take 4096 input) d .0 e .1) q)
 
     of-fault : (c : ℕ) × (place : ℕ) × Between 1 c 6 × (diagramIn textLine (take 4096 input) ≡ refused c place 0)
         → length (program input) ≤ 194510

@@ -8,24 +8,24 @@
 -- and `populateCall` (document 01: reading, check, fill) are the outcomes that the public functions promise for a buffer of the length `space`, and
 -- `bufferAfter` says what an outcome leaves in it. A population here is a `ValidPopulation`: cells that meet every constraint.
 -- A list of sizes has one entry for each set, in document 01's order. `a ≼ b`: equally many, and no entry of `a` is above that of `b`.
-use Prim.Native.Nat.{ℕ, suc, _≤_, _<_}
+use Prim.Native.Nat.{ℕ, _≤_, _<_}
 use mathlib.Core.Path.{_≡_}
 use mathlib.Core.Logic.{_↔_}
 use mathlib.Core.List.{List, _++_}
 use lib.ListN.{length, drop}
 use Rattle.counting.specs.Terms.{Each}
-use Rattle.fixpoint.specs.Limits.{unsatisfiable, fixpoint}
-use Rattle.fixpoint.specs.Notions.{_≼_, Unsatisfiable, Fixpoint}
+use Rattle.fixpoint.specs.Notions.{_≼_}
 use Rattle.orm.specs.Diagram.{Diagram, table}
 use Rattle.orm.specs.Text.{render, textLine, tableLine}
-use Rattle.orm.specs.Sets.{lower, upper, limits, upperAfterRounds, verdict}
+use Rattle.orm.specs.Sets.{lower, upper, upperAfterRounds}
 use Rattle.orm.specs.Population.{cells}
 use Rattle.orm.specs.Populate.{population}
 use Rattle.orm.specs.Constraints.{sizes, valid}
-use Rattle.orm.specs.Outcome.{Outcome, refused, accepted, bufferAfter, lengthOf, Sized, written, handedBack}
+use Rattle.orm.specs.Outcome.{Outcome, refused, accepted, bufferAfter, lengthOf, Sized, written}
 use Rattle.orm.specs.Calls.{diagramIn, populationIn, readCall, checkCall, populateCall, validateCall}
 use Rattle.orm.specs.Meaning.{Between, ValidPopulation}
 use Rattle.orm.specs.WellFormed.{WellFormed}
+use Rattle.guarantee.specs.Settling.{EmptiedFrom, RefusesBy, SettledFrom, Writes}
 
 abbrev pub NoPopulation : Diagram → Type 0
 NoPopulation d = (s : List ℕ) → ¬ ValidPopulation d s
@@ -44,35 +44,19 @@ pub record TextGuarantee (text : List ℕ) (d : Diagram) : Type 0 where
   -- so that all that follows of tables holds of this one
   pub accepted-again : diagramIn tableLine (table d) ≡ accepted d
 
--- ---- check and populate: a call gives the outcome for every length of the buffer
+-- ---- check and populate: rounds from the diagram's own bounds
 
--- 'document 01's set and round'; the place is the set's number, from 1
-pub record EmptiedAt (d : Diagram) (place round : ℕ) : Type 0 where
-  pub set : ℕ
-  pub numbered : place ≡ suc set
-  pub defined : verdict d ≡ unsatisfiable set round
-  -- after this round, and not before, an upper bound is below its lower bound, that of this set the first
-  pub meaning : Unsatisfiable (limits d) (lower d) (upper d) set round
+-- 'document 01's set and round'
+abbrev pub EmptiedAt : Diagram → ℕ → ℕ → Type 0
+EmptiedAt d place round = EmptiedFrom d (lower d) (upper d) place round
 
 -- 'refuse as emptied, with document 01's set and round, exactly when no population exists', whatever the buffer
-pub record RefusesEmptied (d : Diagram) (call : ℕ → Outcome Sized) : Type 0 where
-  pub exactly-when : (space : ℕ) → ((place : ℕ) × (round : ℕ) × (call space ≡ refused 7 place round)) ↔ NoPopulation d
-  pub set-and-round : (space place round : ℕ) → call space ≡ refused 7 place round → EmptiedAt d place round
+abbrev pub RefusesEmptied : Diagram → (ℕ → Outcome Sized) → Type 0
+RefusesEmptied d call = RefusesBy 7 d (lower d) (upper d) (NoPopulation d) call
 
 -- 'the settled sizes', and the rounds made
-pub record SettledAfter (d : Diagram) (rounds : ℕ) (settled : List ℕ) : Type 0 where
-  pub defined : verdict d ≡ fixpoint rounds settled
-  -- these upper bounds stand after so many rounds, of which the last, and no other, lowered nothing; none was ever below its lower bound
-  pub meaning : Fixpoint (limits d) (lower d) (upper d) rounds settled
-
--- The result is 'written', and the rounds are handed back; a buffer that is too short is refused
-pub record Writes (call : ℕ → Outcome Sized) (rounds : ℕ) (result : List ℕ) : Type 0 where
-  pub writes : (space : ℕ) → length result ≤ space → call space ≡ accepted (record { rounds = rounds; result = result })
-  pub front : (buffer : List ℕ) → length result ≤ length buffer
-      → bufferAfter (written (call (length buffer))) buffer ≡ result ++ drop (length result) buffer
-  pub hands-back : (space : ℕ) → length result ≤ space
-      → handedBack (call space) ≡ accepted (record { rounds = rounds; resultLength = length result })
-  pub too-short : (space : ℕ) → space < length result → call space ≡ refused 8 (length result) 0
+abbrev pub SettledAfter : Diagram → ℕ → List ℕ → Type 0
+SettledAfter d rounds settled = SettledFrom d (lower d) (upper d) rounds settled
 
 pub record Populated (t : List ℕ) (d : Diagram) : Type 0 where
   pub rounds : ℕ

@@ -1,25 +1,24 @@
 -- The proof of demand 3.
-use Prim.Native.Nat.{ℕ, suc, _≤_}
-use mathlib.Core.Path.{_≡_, refl, sym, ap, _∙_}
-use mathlib.Core.Logic.{⊎-elim}
+use Prim.Native.Nat.{ℕ, _≤_}
+use mathlib.Core.Path.{_≡_, refl, ap, _∙_}
+use mathlib.Core.Logic.{_↔_, ⊎-elim}
 use mathlib.Core.List.{List}
 use native.Mathlib.Omega.{arith}
 use lib.ListN.{length}
-use Rattle.fixpoint.specs.Limits.{Verdict, unsatisfiable, fixpoint}
 use Rattle.orm.specs.Diagram.{Diagram, LineKind, table}
 use Rattle.orm.specs.Reader.{Cut}
 use Rattle.orm.specs.Text.{textLine, tableLine}
-use Rattle.orm.specs.Sets.{verdict}
-use Rattle.orm.specs.Outcome.{Outcome, accepted, _>>=_, bufferAfter, lengthOf, Sized, written, handedBack}
-use Rattle.orm.specs.Calls.{diagramIn, settledInto, readCall, checkCall, populateCall}
+use Rattle.orm.specs.Sets.{lower, upper, verdictFrom}
+use Rattle.orm.specs.Outcome.{Outcome, accepted, _>>=_, bufferAfter, lengthOf, written}
+use Rattle.orm.specs.Calls.{diagramIn, readCall, checkCall, populateCall}
 use Rattle.orm.specs.WellFormed.{WellFormed}
-use Rattle.orm.specs.Laws.Rounds.{verdict-laws}
+use Rattle.orm.specs.Laws.Rounds.{own-bounds, verdict-laws}
 use Rattle.orm.specs.Laws.Cells.{population-in-iff, validate-iff}
 use Rattle.reading.specs.Laws.{text-accepted-iff, table-accepted-iff, accepted-or-fault, accepted-text-table, fits, does-not-fit}
-use Rattle.sound.specs.Laws.{valid-laws, valid-small, unsatisfiable-empty}
-use Rattle.complete.specs.Laws.{population-laws, fixpoint-solved}
-use Rattle.guarantee.specs.Ends.{read-ends, sized, settled-unsatisfiable, settled-fixpoint, of-refused, check-ends, populate-ends}
-use Rattle.guarantee.specs.Guarantee.{NoPopulation, TextGuarantee, RefusesEmptied, Writes, Populated, TableGuarantee, FaultOfForm, Guarantee}
+use Rattle.sound.specs.Laws.{valid-laws, valid-small}
+use Rattle.guarantee.specs.Inside.{NoneFits, settled-greatest, some-settled}
+use Rattle.guarantee.specs.Ends.{read-ends, check-ends, populate-ends, refuses-by, writes-made}
+use Rattle.guarantee.specs.Guarantee.{NoPopulation, TextGuarantee, Populated, TableGuarantee, FaultOfForm, Guarantee}
 
 text-guarantee : (text : List ℕ) (d : Diagram) → diagramIn textLine text ≡ accepted d → TextGuarantee text d
 unfolding bufferAfter
@@ -35,72 +34,41 @@ text-guarantee text d e = record {
     reads : (space : ℕ) → length (table d) ≤ space → readCall text space ≡ accepted (table d)
     reads space h = read-ends text d space e ∙ fits space (table d) h
 
-module _ (d : Diagram) (form : WellFormed d) where
-  ends-unsatisfiable : NoPopulation d → (s : ℕ) × (n : ℕ) × (verdict d ≡ unsatisfiable s n)
-  ends-unsatisfiable none = go (verdict d) refl
-    where
-      go : (v : Verdict) → verdict d ≡ v → (s : ℕ) × (n : ℕ) × (verdict d ≡ unsatisfiable s n)
-      go (unsatisfiable s n) e = (s, n, e)
-      go (fixpoint n c) e = absurd (none _ (population-laws d c (fixpoint-solved form e) .valid))
-
-  ends-fixpoint : ¬ NoPopulation d → (n : ℕ) × (c : List ℕ) × (verdict d ≡ fixpoint n c)
-  ends-fixpoint some = go (verdict d) refl
-    where
-      go : (v : Verdict) → verdict d ≡ v → (n : ℕ) × (c : List ℕ) × (verdict d ≡ fixpoint n c)
-      go (unsatisfiable s n) e = absurd (some (unsatisfiable-empty d form s n e))
-      go (fixpoint n c) e = (n, c, e)
-
-  -- A call that ends by the verdict
-  module _ (call : ℕ → Outcome Sized) (make : List ℕ → List ℕ) (ends : (space : ℕ) → call space ≡ settledInto make d space) where
-    refuses-emptied : RefusesEmptied d call
-    unfolding verdict
-    refuses-emptied = record {
-      exactly-when = λ space. (
-        λ (place, round, r). let (s, e, v) = of-refused make d space (sym (ends space) ∙ r) in unsatisfiable-empty d form s round v,
-        λ none. let (s, n, v) = ends-unsatisfiable none in (suc s, n, ends space ∙ settled-unsatisfiable make d space v),
-      );
-      set-and-round = λ space place round r.
-          let (s, e, v) = of-refused make d space (sym (ends space) ∙ r) in
-          record { set = s; numbered = e; defined = v; meaning = verdict-laws d .at-unsatisfiable v };
-    }
-
-    writes-made : {n : ℕ} {c : List ℕ} → verdict d ≡ fixpoint n c → Writes call n (make c)
-    unfolding bufferAfter written
-    writes-made {n} {c} v = record {
-      writes = writes;
-      front = λ buffer h. ap (λ o. bufferAfter (written o) buffer) (writes (length buffer) h);
-      hands-back = λ space h. ap handedBack (writes space h);
-      too-short = λ space h. ends space ∙ settled-fixpoint make d space v ∙ ap (_>>= sized n) (does-not-fit space (make c) h);
-    }
-      where
-        writes : (space : ℕ) → length (make c) ≤ space → call space ≡ accepted (record { rounds = n; result = make c })
-        writes space h = ends space ∙ settled-fixpoint make d space v ∙ ap (_>>= sized n) (fits space (make c) h)
+-- Every valid population is between the diagram's own bounds
+pub none-fits : (d : Diagram) → WellFormed d → NoneFits d (lower d) (upper d) ↔ NoPopulation d
+none-fits d form = (
+  λ none s o. let l = valid-laws d form s o in none s o (record { above = l .above; under = l .solution .under }),
+  λ none s o f. none s o,
+)
 
 module _ (t : List ℕ) (d : Diagram) (e : diagramIn tableLine t ≡ accepted d) where
+  seven : ¬ _≡_ {A = ℕ} 7 8
+  seven q = omega arith
+
   form : WellFormed d
   form = table-accepted-iff t d .0 e .1
 
   populated : ¬ NoPopulation d → Populated t d
-  unfolding verdict
+  unfolding verdictFrom
   populated some =
-      let (n, c, v) = ends-fixpoint d form some in
-      let laws = population-laws d c (fixpoint-solved form v) in
+      let (n, c, v) = some-settled form (own-bounds d) (λ none. some (none-fits d form .0 none)) in
+      let g = settled-greatest form (own-bounds d) v in
       record {
         rounds = n;
         settled = c;
         settled-after = record { defined = v; meaning = verdict-laws d .at-fixpoint v };
-        check-writes = writes-made d form (checkCall t) _ (check-ends t d e) v;
-        populate-writes = writes-made d form (populateCall t) _ (populate-ends t d e) v;
-        cells-meet = laws .valid;
-        exact = laws .exact;
-        greatest = λ s o. valid-laws d form s o .under-fixpoint n c v;
+        check-writes = writes-made form (own-bounds d) 7 seven (checkCall t) _ (check-ends t d e) v;
+        populate-writes = writes-made form (own-bounds d) 7 seven (populateCall t) _ (populate-ends t d e) v;
+        cells-meet = g .made .valid;
+        exact = g .made .exact;
+        greatest = λ s o. valid-laws d form s o .under-fixpoint (own-bounds d) (valid-laws d form s o .solution .under) v;
       }
 
   table-guarantee : TableGuarantee t d
   table-guarantee = record {
     bounded = λ n s o. valid-laws d form s o .rounds n;
-    check-refuses = refuses-emptied d form (checkCall t) _ (check-ends t d e);
-    populate-refuses = refuses-emptied d form (populateCall t) _ (populate-ends t d e);
+    check-refuses = refuses-by form (own-bounds d) 7 seven (checkCall t) _ (check-ends t d e) (none-fits d form);
+    populate-refuses = refuses-by form (own-bounds d) 7 seven (populateCall t) _ (populate-ends t d e) (none-fits d form);
     otherwise = populated;
     judged = λ s. validate-iff t s d e;
     cut = λ s o. population-in-iff d s (o .population) .1 (o .cells-of, o .shaped);
@@ -108,7 +76,7 @@ module _ (t : List ℕ) (d : Diagram) (e : diagramIn tableLine t ≡ accepted d)
   }
 
 -- A call that begins with the diagram refuses what has none
-fault-of-form : {A : Type 0} (next : LineKind → List ℕ → Cut) (s : List ℕ) (rest : ℕ → Diagram → Outcome A)
+pub fault-of-form : {A : Type 0} (next : LineKind → List ℕ → Cut) (s : List ℕ) (rest : ℕ → Diagram → Outcome A)
     → ((d : Diagram) → ¬ (diagramIn next s ≡ accepted d)) → FaultOfForm (λ space. diagramIn next s >>= rest space)
 fault-of-form next s rest none =
     ⊎-elim (λ (d, e). absurd (none d e))

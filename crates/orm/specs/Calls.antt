@@ -2,7 +2,7 @@
 -- the buffer. The refusals stand in their order. 'Reading takes text and gives the table; every other call takes the table'.
 use Prim.Native.Nat.{ℕ, suc}
 use mathlib.Core.List.{List}
-use Rattle.fixpoint.specs.Limits.{unsatisfiable, fixpoint}
+use Rattle.fixpoint.specs.Limits.{Verdict, unsatisfiable, fixpoint}
 use Rattle.orm.specs.Diagram.{Diagram, LineKind, table}
 use Rattle.orm.specs.Reader.{Cut}
 use Rattle.orm.specs.Form.{reading}
@@ -17,13 +17,14 @@ use Rattle.orm.specs.Outcome.{Outcome, refused, accepted, _>>=_, outcome
 unfoldable pub diagramIn : (LineKind → List ℕ → Cut) → List ℕ → Outcome Diagram
 diagramIn next s = outcomeOf (reading next s)
 
--- 7 'a set is emptied', at the 'set number'; or 'the ceilings are the sizes, called settled'
+-- 'a set is emptied', refused by this number at the 'set number'; or 'the ceilings are the sizes, called settled'
+unfoldable pub sizesBy : ℕ → Verdict → Outcome Sized
+sizesBy number (unsatisfiable s round) = refused number (suc s) round
+sizesBy number (fixpoint n c) = accepted (record { rounds = n; result = c })
+
+-- 7
 unfoldable pub sizesOf : Diagram → Outcome Sized
-sizesOf d =
-    elim (verdict d) [
-      | unsatisfiable s round ↦ refused 7 (suc s) round
-      | fixpoint n c ↦ accepted (record { rounds = n; result = c })
-    ]
+sizesOf d = sizesBy 7 (verdict d)
 
 -- 9 'cells end early or run on'
 unfoldable pub populationIn : Diagram → List ℕ → Outcome Population
@@ -41,10 +42,10 @@ writeCall t space = do
   d ← diagramIn tableLine t
   fitted space (render d)
 
--- 'Then 7 (check and fill only), then 8': what is made of the sizes, and the rounds
-unfoldable pub settledInto : (List ℕ → List ℕ) → Diagram → ℕ → Outcome Sized
-settledInto make d space = do
-  s ← sizesOf d
+-- 'Then 7 (check and fill only), then 8': what is made of the sizes that the rounds end with, and the rounds
+unfoldable pub settledInto : ℕ → (List ℕ → List ℕ) → Verdict → ℕ → Outcome Sized
+settledInto number make v space = do
+  s ← sizesBy number v
   w ← fitted space (make (s .result))
   accepted (record { rounds = s .rounds; result = w })
 
@@ -52,13 +53,13 @@ settledInto make d space = do
 unfoldable pub checkCall : List ℕ → ℕ → Outcome Sized
 checkCall t space = do
   d ← diagramIn tableLine t
-  settledInto (λ c. c) d space
+  settledInto 7 (λ c. c) (verdict d) space
 
 -- Populating (document 01: filling): 'the fill the cells'
 unfoldable pub populateCall : List ℕ → ℕ → Outcome Sized
 populateCall t space = do
   d ← diagramIn tableLine t
-  settledInto (λ c. cells (population d c)) d space
+  settledInto 7 (λ c. cells (population d c)) (verdict d) space
 
 -- Validating (document 01: judging): 'in the judge 9 follows 6. The judge doesn't run rounds'
 unfoldable pub validateCall : List ℕ → List ℕ → Outcome Answer

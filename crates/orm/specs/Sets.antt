@@ -147,6 +147,10 @@ upperAfterRounds d n = upperAfter (limits d) (upper d) n
 unfoldable pub mostRounds : Diagram → ℕ
 mostRounds d = suc (slack (lower d) (upper d))
 
+-- How the rounds end, from some lower and upper bounds of the sets
+unfoldable pub verdictFrom : Diagram → List ℕ → List ℕ → Verdict
+verdictFrom d low high = run (limits d) low high
+
 -- How the check ends
-unfoldable pub verdict : Diagram → Verdict
-verdict d = run (limits d) (lower d) (upper d)
+abbrev pub verdict : Diagram → Verdict
+verdict d = verdictFrom d (lower d) (upper d)

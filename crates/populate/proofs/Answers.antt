@@ -12,7 +12,7 @@ use Rattle.orm.specs.Sets.{verdict}
 use Rattle.orm.specs.Population.{cells}
 use Rattle.orm.specs.Populate.{population}
 use Rattle.orm.specs.Outcome.{Outcome, refused, accepted, _>>=_, bufferAfter, Sized, written, Handed, handedBack}
-use Rattle.orm.specs.Calls.{diagramIn, sizesOf, settledInto, checkCall, populateCall}
+use Rattle.orm.specs.Calls.{diagramIn, sizesBy, settledInto, checkCall, populateCall}
 use Rattle.reading.specs.Laws.{fits, does-not-fit}
 use Rattle.grammar.specs.declared.Fault.{Fault}
 use Rattle.bounds.specs.Answer.{checkOf}
@@ -66,22 +66,20 @@ room-for : (m n : ℕ) (c : List ℕ) → length c ≤ m → sizedIn m n c ≡ a
 unfolding sizedIn
 room-for m n c h = ap (λ (q : Outcome (List ℕ)). q >>= λ w. accepted (record { rounds = n; result = w })) (fits m c h)
 
--- the outcome of a verdict, and what is made of the sizes
-abbrev outcomeOf : Verdict → Outcome Sized
-outcomeOf v = elim v [ unsatisfiable s round ↦ refused 7 (suc s) round | fixpoint n c ↦ accepted (record { rounds = n; result = c }) ]
-
+-- what is made of the sizes
 abbrev made : (List ℕ → List ℕ) → ℕ → Sized → Outcome Sized
 made make space s = sizedIn space (s .rounds) (make (s .result))
 
 module _ (t scratch : List ℕ) (roomy : Roomy t scratch) (space : ℕ) where
   by-verdict : (v : Verdict) → Valid t → verdict (diagramOf t) ≡ v
-      → Ends t space (outcomeOf v >>= made (λ c. c) (length scratch)) (outcomeOf v >>= made (λ c. cells (population (diagramOf t) c)) space)
+      → Ends t space (sizesBy 7 v >>= made (λ c. c) (length scratch)) (sizesBy 7 v >>= made (λ c. cells (population (diagramOf t) c)) space)
+  unfolding sizesBy
   by-verdict (unsatisfiable s n) valid e = stopped 7 (suc s) n
   by-verdict (fixpoint n c) valid e = rw (room-for (length scratch) n c (roomy .room valid e)) (settled n c valid e)
 
   by-form : (o : Outcome Diagram) → diagramIn tableLine t ≡ o
-      → Ends t space (o >>= λ d. outcomeOf (verdict d) >>= made (λ c. c) (length scratch))
-      (o >>= λ d. outcomeOf (verdict d) >>= made (λ c. cells (population d c)) space)
+      → Ends t space (o >>= λ d. sizesBy 7 (verdict d) >>= made (λ c. c) (length scratch))
+      (o >>= λ d. sizesBy 7 (verdict d) >>= made (λ c. cells (population d c)) space)
   by-form (refused n place round) e = stopped n place round
   by-form (accepted d) e =
       let valid : Valid t = accepted-valid t d e in
@@ -89,7 +87,7 @@ module _ (t scratch : List ℕ) (roomy : Roomy t scratch) (space : ℕ) where
       rw same (by-verdict (verdict (diagramOf t)) valid refl)
 
   ends : Ends t space (checkCall t (length scratch)) (populateCall t space)
-  unfolding checkCall populateCall settledInto sizesOf sizedIn
+  unfolding checkCall populateCall settledInto sizedIn
   ends = by-form (diagramIn tableLine t) refl
 
 -- ---- the check's refusals are handed on

@@ -14,7 +14,8 @@ use Rattle.orm.specs.Outcome.{Outcome, refused, accepted, _>>=_, lengthOf, buff
 use Rattle.orm.specs.Calls.{diagramIn, readCall, checkCall, populateCall}
 use Rattle.orm.specs.Meaning.{Between}
 use Rattle.orm.specs.WellFormed.{WellFormed}
-use Rattle.guarantee.specs.Guarantee.{NoPopulation, EmptiedAt, RefusesEmptied, Writes, Populated, TableGuarantee}
+use Rattle.guarantee.specs.Settling.{Writes}
+use Rattle.guarantee.specs.Guarantee.{NoPopulation, EmptiedAt, RefusesEmptied, Populated, TableGuarantee}
 use Rattle.guarantee.specs.Proof.{guarantee}
 use Rattle.grammar.specs.Fault.{numberOf}
 use Rattle.grammar.specs.declared.Fault.{Fault}

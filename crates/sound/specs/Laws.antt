@@ -11,12 +11,12 @@ use Rattle.fixpoint.specs.Limits.{unsatisfiable, fixpoint}
 use Rattle.fixpoint.specs.Notions.{_≼_, Holds, Satisfies, Solution}
 use Rattle.fixpoint.specs.Laws.{round-laws}
 use Rattle.orm.specs.Diagram.{Diagram}
-use Rattle.orm.specs.Sets.{lower, upper, limits, limitsOfPred, limitsOfType, placed, upperAfterRounds, verdict}
+use Rattle.orm.specs.Sets.{lower, upper, limits, limitsOfPred, limitsOfType, placed, upperAfterRounds, verdictFrom}
 use Rattle.orm.specs.Population.{Population}
 use Rattle.orm.specs.Constraints.{sizes}
 use Rattle.orm.specs.Meaning.{Meets, Shaped, ValidPopulation}
 use Rattle.orm.specs.WellFormed.{WellFormed}
-use Rattle.orm.specs.Laws.Rounds.{verdict-laws}
+use Rattle.orm.specs.Laws.Rounds.{Inside, inside-laws}
 use Rattle.sound.specs.Positions.{predicate-found}
 use Rattle.sound.specs.Bounds.{lower-≼, ≼-upper}
 use Rattle.sound.specs.PredicateLimits.{predicate-limits}
@@ -30,9 +30,9 @@ pub record SizesLaws (d : Diagram) (x : List ℕ) : Type 0 where
   pub solution : Solution (limits d) (upper d) x
   -- No round brings an upper bound below them
   pub rounds : (n : ℕ) → x ≼ upperAfterRounds d n
-  -- The rounds do not end unsatisfiable, and where they end at a fixpoint it is above them
-  pub satisfiable : (s n : ℕ) → ¬ (verdict d ≡ unsatisfiable s n)
-  pub under-fixpoint : (n : ℕ) (c : List ℕ) → verdict d ≡ fixpoint n c → x ≼ c
+  -- Rounds from any bounds that they are between do not end unsatisfiable, and where they end at a fixpoint it is above them
+  pub satisfiable : {low high : List ℕ} → Inside d low high → low ≼ x → x ≼ high → {s n : ℕ} → ¬ (verdictFrom d low high ≡ unsatisfiable s n)
+  pub under-fixpoint : {low high : List ℕ} → Inside d low high → x ≼ high → {n : ℕ} {c : List ℕ} → verdictFrom d low high ≡ fixpoint n c → x ≼ c
 
 module _ (d : Diagram) (o : Population) (form : WellFormed d) (shaped : Shaped d o) (meets : Meets d o) where
   limits-satisfied : Satisfies (limits d) (sizes d o)
@@ -51,13 +51,13 @@ module _ (d : Diagram) (o : Population) (form : WellFormed d) (shaped : Shaped d
 
   -- Every population of the diagram's shape that meets the constraints
   pub sizes-laws : SizesLaws d (sizes d o)
-  unfolding verdict upperAfterRounds
+  unfolding verdictFrom upperAfterRounds
   sizes-laws = record {
     above = lower-≼ d o form shaped meets;
     solution = solution;
     rounds = after;
-    satisfiable = λ s n e. verdict-laws d .unsatisfiable-iff .0 (s, n, e) (sizes d o) solution (lower-≼ d o form shaped meets);
-    under-fixpoint = λ n c e. rw (verdict-laws d .at-fixpoint e .stands) (after n);
+    satisfiable = λ i a b {s} {n} e. inside-laws i .unsatisfiable-iff .0 (s, n, e) (sizes d o) (record { under = b; limits = limits-satisfied }) a;
+    under-fixpoint = λ i b {n} {c} e. inside-laws i .fixpoint-iff c .0 (n, e) .1 .greatest (sizes d o) (record { under = b; limits = limits-satisfied });
   }
 
 -- Every list of cells that is a valid population of the diagram
@@ -67,7 +67,3 @@ module _ (d : Diagram) (form : WellFormed d) (s : List ℕ) (v : ValidPopulation
 
   pub valid-small : Each (_≤ 999999) s
   valid-small = rw (v .cells-of) (population-small d (v .population) form (v .shaped) (v .meets))
-
--- Where the rounds end unsatisfiable, no cells are a valid population
-pub unsatisfiable-empty : (d : Diagram) → WellFormed d → (s n : ℕ) → verdict d ≡ unsatisfiable s n → (cells : List ℕ) → ¬ ValidPopulation d cells
-unsatisfiable-empty d form s n e cells v = valid-laws d form cells v .satisfiable s n e

@@ -12,7 +12,7 @@ use Rattle.orm.specs.Sets.{verdict}
 use Rattle.orm.specs.Population.{cells}
 use Rattle.orm.specs.Populate.{population}
 use Rattle.orm.specs.Outcome.{Outcome, refused, accepted, _>>=_, fitted, lengthOf}
-use Rattle.orm.specs.Calls.{diagramIn, sizesOf, readCall}
+use Rattle.orm.specs.Calls.{diagramIn, sizesBy, sizesOf, readCall}
 use Rattle.orm.specs.Program.{report, output, reported, program}
 use Rattle.reading.specs.Laws.{fits, does-not-fit, accepted-or-fault}
 use Rattle.guarantee.specs.Proof.{guarantee}
@@ -24,16 +24,16 @@ use Rattle.command.specs.Reports.{refusalLine, reportOn, textReport, tab
 
 module _ (d : Diagram) where
   pub emptied-report : {set n : ℕ} → verdict d ≡ unsatisfiable set n → output (reportOn d) ≡ refusalLine 7 (suc set) n
-  unfolding reportOn sizesOf output refusalLine
-  emptied-report e = rw (e, reportOn, sizesOf) refl
+  unfolding reportOn sizesOf sizesBy output refusalLine
+  emptied-report e = rw (e, reportOn, sizesOf, sizesBy) refl
 
   module _ {n : ℕ} {c : List ℕ} (e : verdict d ≡ fixpoint n c) where
     abbrev ended : Outcome (List ℕ) → List ℕ
     ended o = output (o >>= λ w. accepted (report n c (population d c)))
 
     settled-so : output (reportOn d) ≡ ended (fitted 16000 (cells (population d c)))
-    unfolding reportOn sizesOf
-    settled-so = rw (e, reportOn, sizesOf) refl
+    unfolding reportOn sizesOf sizesBy
+    settled-so = rw (e, reportOn, sizesOf, sizesBy) refl
 
     pub settled-report : length (cells (population d c)) ≤ 16000 → output (reportOn d) ≡ report n c (population d c)
     unfolding output

@@ -40,7 +40,7 @@ unfolding
     Sets.firstPred Sets.firstRole Sets.firstGroup Sets.lower Sets.upperOfType Sets.upper Sets.select Sets.rolesOfType Sets.rolesInGroup
     Sets.placedFrom Sets.placed Sets.groupSet Sets.groupRoles Sets.groupPart Sets.rolePart Sets.parts Sets.atMost Sets.onlyIf
     Sets.limitsOfRole Sets.limitsOfGroup Sets.limitOfRows Sets.limitsOfPred Sets.limitsOfType Sets.limits Sets.upperAfterRounds
-    Sets.mostRounds Sets.verdict
+    Sets.mostRounds Sets.verdictFrom
     Population.cellsOfType Population.cellsOfPred Population.cells Population.block Population.rowsOf Population.typeBlock
     Population.predBlock Population.blocks Population.cutting
     Populate.superAt Populate.firstAt Populate.rootWithin Populate.root Populate.firstValue Populate.takenBefore Populate.partTuple
@@ -50,7 +50,7 @@ unfolding
     Constraints.allGrouped Constraints.sizes Constraints.membersOf Constraints.K1 Constraints.K2 Constraints.K3 Constraints.K4
     Constraints.K5 Constraints.K6 Constraints.K7 Constraints.K8 Constraints.K9 Constraints.K10 Constraints.constraints
     Constraints.firstFalse Constraints.firstBroken Constraints.answer
-    Calls.diagramIn Calls.sizesOf Calls.populationIn Calls.readCall Calls.writeCall Calls.settledInto Calls.checkCall Calls.populateCall
+    Calls.diagramIn Calls.sizesBy Calls.sizesOf Calls.populationIn Calls.readCall Calls.writeCall Calls.settledInto Calls.checkCall Calls.populateCall
     Calls.validateCall
     LineReader.lineLength LineReader.nextLine LineReader.positionAfter
     Program.predText Program.report Program.reported Program.output Program.program

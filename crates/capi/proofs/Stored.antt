@@ -12,8 +12,6 @@ use Rattle.populate.specs.Answer.{populateOf}
 use Rattle.populate.specs.declared.PopulateAnswer.{PopulateAnswer}
 use Rattle.validator.specs.Outcomes.{validateOf}
 use Rattle.validator.specs.declared.ValidateAnswer.{ValidateAnswer}
-use Rattle.writer.specs.Answer.{writeOf}
-use Rattle.writer.specs.declared.WriteAnswer.{WriteAnswer}
 use Rattle.capi.specs.Answers.{numbers, roundless, verdictNumbers}
 
 module _ {a : List ℕ} where
@@ -45,8 +43,8 @@ module _ {a : List ℕ} where
 
   -- ---- the answer is the one that its arm matched
 
-  pub read-told : {r s : ReadAnswer} → r ≡ s → a ≡ numbers (roundless (readOf s)) → a ≡ numbers (roundless (readOf r))
-  read-told q e = rw q e
+  pub length-told : {r s : ReadAnswer} → r ≡ s → a ≡ numbers (roundless (readOf s)) → a ≡ numbers (roundless (readOf r))
+  length-told q e = rw q e
 
   pub check-told : {r s : CheckAnswer} → r ≡ s → a ≡ numbers (checkOf s) → a ≡ numbers (checkOf r)
   check-told q e = rw q e
@@ -56,9 +54,6 @@ module _ {a : List ℕ} where
 
   pub validate-told : {r s : ValidateAnswer} → r ≡ s → a ≡ verdictNumbers (validateOf s) → a ≡ verdictNumbers (validateOf r)
   validate-told q e = rw q e
-
-  pub write-told : {r s : WriteAnswer} → r ≡ s → a ≡ numbers (roundless (writeOf s)) → a ≡ numbers (roundless (writeOf r))
-  write-told q e = rw q e
 
   -- ---- the answer is that of the call
 

@@ -12,7 +12,6 @@ ghost use Rattle.reader.specs.Answer.{readOf};
 ghost use Rattle.bounds.specs.Answer.{checkOf};
 ghost use Rattle.populate.specs.Answer.{populateOf};
 ghost use Rattle.validator.specs.Outcomes.{validateOf};
-ghost use Rattle.writer.specs.Answer.{writeOf};
 ghost use Rattle.capi.specs.Answers.{numbers, roundless, verdictNumbers};
 
 fn of_size(x: usize) -> u64
@@ -39,7 +38,8 @@ fn store(answer: &mut [u64; 4], number: u64, place: u64, round: u64, length: u64
     *answer = [number, place, round, length];
 }
 
-fn store_read(answer: &mut [u64; 4], outcome: reader::ReadAnswer)
+// For the calls whose result is told by its length alone: reading and writing.
+fn store_length(answer: &mut [u64; 4], outcome: reader::ReadAnswer)
     ensures { λ _. ⌜ now (answer .exit) ≡ numbers (roundless (readOf outcome)) ⌝ }
 {
     match outcome {
@@ -100,18 +100,6 @@ fn store_validate(answer: &mut [u64; 4], outcome: validator::ValidateAnswer)
     }
 }
 
-fn store_write(answer: &mut [u64; 4], outcome: writer::WriteAnswer)
-    ensures { λ _. ⌜ now (answer .exit) ≡ numbers (roundless (writeOf outcome)) ⌝ }
-{
-    match outcome {
-        writer::WriteAnswer::Accepted { length } => store(answer, 0, 0, 0, of_size(length)),
-        writer::WriteAnswer::Refused { fault, line } => {
-            store(answer, number_of(fault), of_size(line), 0, 0)
-        }
-        writer::WriteAnswer::TooShort { needed } => store(answer, 8, of_size(needed), 0, 0),
-    }
-}
-
 // Reads a diagram from its text into its table.
 #[no_mangle]
 pub extern "C" fn legshorgan_read(text: &[u8], table: &mut [u32], answer: &mut [u64; 4])
@@ -119,7 +107,7 @@ pub extern "C" fn legshorgan_read(text: &[u8], table: &mut [u32], answer: &mut [
     ensures { λ _. ⌜ now (table .exit) ≡ bufferAfter (readCall (now (text .entry)) (length (now (table .entry)))) (now (table .entry)) ⌝ }
 {
     let outcome = reader::read(text, table);
-    store_read(answer, outcome);
+    store_length(answer, outcome);
 }
 
 // The settled sizes of the sets of a table's diagram, in set order.
@@ -158,5 +146,5 @@ pub extern "C" fn legshorgan_write(table: &[u32], text: &mut [u8], answer: &mut 
     ensures { λ _. ⌜ now (text .exit) ≡ bufferAfter (writeCall (now (table .entry)) (length (now (text .entry)))) (now (text .entry)) ⌝ }
 {
     let outcome = writer::write(table, text);
-    store_write(answer, outcome);
+    store_length(answer, outcome);
 }

@@ -117,9 +117,6 @@ module _ (t c s s′ : List ℕ) (rounds : ℕ) (settled : Settled t c rounds) (
   pub table-walkable : Walkable t
   table-walkable = valid-walkable (accepted-valid t (of .diagram) (table-accepted of))
 
-  pub sizes-208 : length c ≤ 208
-  sizes-208 = sizes-few (of .diagram) (of .wellFormed) (settled .settled)
-
   module _ {o o′ : List ℕ} {r : ℕ} where
     pub fill-faulty : {f : Fault} {line n : ℕ} → a ≡ fills.Refused f line → n ≡ numberOf f → Wrote o 0 (refusalLine n line 0) o′ r
         → Wrote o 0 (tableReport t) o′ r

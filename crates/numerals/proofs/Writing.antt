@@ -3,26 +3,85 @@ use Prim.Native.Nat.{ℕ, zero, suc, _+_, _-_, _/_, _%_, _≤_, _<_}
 use native.Mathlib.Numerals.{add-one}
 use native.Mathlib.Omega.{arith}
 use mathlib.Core.Path.{_≡_, refl, sym, ap, _∙_}
-use mathlib.Core.List.{List, [], _∷_, _++_}
-use lib.ListN.{length, getD, drop, length-drop, List·getD-eq-default}
-use lib.Seq.{append-snoc, drop-drop, getD-drop}
+use mathlib.Core.List.{List, [], _∷_, _++_, append-nil}
+use lib.ListN.{length, getD, take, drop, set, length-set, length-drop, drop-of-length-le, List·getD-eq-default}
+use lib.Seq.{take-all, append-snoc, drop-drop, getD-drop}
 use Rattle.orm.specs.Text.{separator, decimal, valuesText}
-use Rattle.reading.specs.Decimal.{decimal-small, decimal-large}
+use Rattle.reading.specs.Decimal.{bound, decimal-small, decimal-large}
 use Rattle.buffer.specs.Written.{Wrote, Writing, Splits}
 use Rattle.buffer.specs.Laws.{wrote-then, wrote-as, writing-start}
 use Rattle.numerals.specs.Lines.{numbersFrom, keyed, keyedLines}
 
 -- ---- digits
 
-module _ {o o₁ : List ℕ} {at a n d : ℕ} where
-  pub wrote-digit : n < 10 → d ≡ 48 + n % 10 → Wrote o at (d ∷ []) o₁ a → Wrote o at (decimal n) o₁ a
-  wrote-digit small is w =
+-- Of `n` the digits from `from` on are written, and those of `left` are not
+pub record Digits (n : ℕ) (out : List ℕ) (from left : ℕ) : Type 0 where
+  pub some : 1 ≤ from
+  pub inside : from ≤ length out
+  pub small : left < bound from
+  pub whole : decimal left ++ drop from out ≡ decimal n
+
+pub digits-start : (n : ℕ) (out : List ℕ) → n < 18446744073709551616 → length out ≡ 20 → Digits n out 20 n
+unfolding bound
+digits-start n out h e =
+    let all : length out ≤ 20 = omega arith in
+    let none : drop 20 out ≡ [] = drop-of-length-le out all in
+    record { some = omega arith; inside = omega arith; small = omega arith; whole = rw none (append-nil (decimal n)) }
+
+stored : (out : List ℕ) (k d : ℕ) → k < length out → drop k (set out k d) ≡ d ∷ drop (suc k) out
+stored [] k d h = absurd (omega arith)
+stored (x ∷ out) zero d h = refl
+stored (x ∷ out) (suc k) d h = stored out k d (omega arith)
+
+some-left : (k left : ℕ) → 10 ≤ left → left < bound (suc k) → 1 ≤ k
+unfolding bound
+some-left zero left h l = absurd (omega arith)
+some-left (suc k) left h l = omega arith
+
+module _ (n : ℕ) (out : List ℕ) where
+  pub digits-more : (from left : ℕ) {d : ℕ} → Digits n out from left → 10 ≤ left → d ≡ 48 + left % 10
+      → Digits n (set out (from - 1) d) (from - 1) (left / 10)
+  unfolding bound
+  digits-more zero left w h is = absurd (omega (arith, w .some))
+  digits-more (suc k) left {d} w h is =
+      let e : suc k - 1 ≡ k = omega arith in
+      let here : k < length out = omega (arith, w .inside) in
+      let behind : List ℕ = drop (suc k) out in
+      rw e
+      (record {
+        some = some-left k left h (w .small);
+        inside = simp length-set (omega arith);
+        small = omega (arith, w .small);
+        whole =
+            ap (λ (l : List ℕ). decimal (left / 10) ++ l) (stored out k d here) ∙ sym (append-snoc (decimal (left / 10)) d behind)
+            ∙ ap (λ (l : List ℕ). l ++ behind) (ap (λ (x : ℕ). decimal (left / 10) ++ x ∷ []) is ∙ sym (decimal-large left h))
+            ∙ w .whole;
+      })
+
+  pub digits-all : (from left : ℕ) {d : ℕ} → Digits n out from left → left < 10 → d ≡ 48 + left % 10
+      → drop (from - 1) (set out (from - 1) d) ≡ decimal n
+  digits-all zero left w h is = absurd (omega (arith, w .some))
+  digits-all (suc k) left {d} w h is =
+      let e : suc k - 1 ≡ k = omega arith in
+      let here : k < length out = omega (arith, w .inside) in
+      let digit : d ≡ 48 + left = omega arith in
+      let behind : List ℕ = drop (suc k) out in
+      rw e
+      (stored out k d here ∙ ap (λ (x : ℕ). x ∷ behind) digit ∙ ap (λ (l : List ℕ). l ++ behind) (sym (decimal-small left h))
+      ∙ w .whole)
+
+module _ {o o₁ : List ℕ} {at a : ℕ} (n : ℕ) where
+  pub wrote-digit : {d : ℕ} → n < 10 → d ≡ 48 + n % 10 → Wrote o at (d ∷ []) o₁ a → Wrote o at (decimal n) o₁ a
+  wrote-digit {d} small is w =
       let e : d ≡ 48 + n = omega arith in
       wrote-as w (ap (λ (x : ℕ). x ∷ []) e ∙ sym (decimal-small n small))
 
-  pub wrote-digits : {o₂ : List ℕ} {b : ℕ} → 10 ≤ n → Wrote o at (decimal (n / 10)) o₁ a → d ≡ 48 + n % 10 → Wrote o₁ a (d ∷ []) o₂ b
-      → Wrote o at (decimal n) o₂ b
-  wrote-digits large w is v = wrote-as (wrote-then w v) (ap (λ (x : ℕ). decimal (n / 10) ++ x ∷ []) is ∙ sym (decimal-large n large))
+  -- `space` has twenty bytes, of which those from `from` on are written
+  pub wrote-digits : (space : List ℕ) (from : ℕ) → length space ≡ 20 → drop from space ≡ decimal n
+      → Wrote o at (take (20 - from) (drop from space)) o₁ a → Wrote o at (decimal n) o₁ a
+  wrote-digits space from long e w =
+      let all : length (drop from space) ≤ 20 - from = simp length-drop (omega arith) in
+      wrote-as w (take-all (20 - from) (drop from space) all ∙ e)
 
 -- ---- what follows a number
 
@@ -52,15 +111,18 @@ module _ {o o₁ o₂ : List ℕ} {at a b : ℕ} where
 
 -- ---- a number by its position
 
-module _ (xs : List ℕ) (p i : ℕ) where
-  pub item-past : length xs ≤ p → 0 ≡ getD (drop p xs) i 0
+module _ (xs : List ℕ) (p i : ℕ) {r : ℕ} (e : r ≡ length xs - p) where
+  pub item-past : r ≤ i → 0 ≡ getD (drop p xs) i 0
   item-past h = sym (List·getD-eq-default (drop p xs) 0 {n = i} (omega (arith, length-drop p xs)))
 
-  pub item-behind : length xs - p ≤ i → 0 ≡ getD (drop p xs) i 0
-  item-behind h = sym (List·getD-eq-default (drop p xs) 0 {n = i} (omega (arith, length-drop p xs)))
+  pub skip-past : r ≤ i → drop (length xs) xs ≡ drop (p + i) xs
+  skip-past h =
+      let all : length xs ≤ length xs = omega arith in
+      let past : length xs ≤ p + i = omega arith in
+      drop-of-length-le xs all ∙ sym (drop-of-length-le xs past)
 
-  pub item-here : {x : ℕ} → x ≡ getD xs (p + i) 0 → x ≡ getD (drop p xs) i 0
-  item-here e = e ∙ sym (getD-drop p xs i 0)
+pub item-here : (xs : List ℕ) (p i : ℕ) {x : ℕ} → x ≡ getD xs (p + i) 0 → x ≡ getD (drop p xs) i 0
+item-here xs p i e = e ∙ sym (getD-drop p xs i 0)
 
 -- ---- the numbers of a line, one after another
 
@@ -99,13 +161,14 @@ module _ (s : List ℕ) (i n : ℕ) where
 
 -- ---- lines of one kind, one after another
 
-pub lines-more : (k : List ℕ) (n : ℕ) (t : List ℕ) (q left : ℕ) → 0 < left
-    → Splits (keyedLines k n left (drop q t)) (keyed k (numbersFrom (drop q t) 0 n)) (keyedLines k n (left - 1) (drop (q + n) t))
+-- `p` is where the next line starts
+pub lines-more : (k : List ℕ) (n : ℕ) (t : List ℕ) (q left p : ℕ) → 0 < left → drop p t ≡ drop (q + n) t
+    → Splits (keyedLines k n left (drop q t)) (keyed k (numbersFrom (drop q t) 0 n)) (keyedLines k n (left - 1) (drop p t))
 unfolding keyedLines
-lines-more k n t q zero h = absurd (omega arith)
-lines-more k n t q (suc left) h =
-    let e : suc left - 1 ≡ left = omega arith in
-    record { is = rw (e, drop-drop n q t) }
+lines-more k n t q zero p h e = absurd (omega arith)
+lines-more k n t q (suc left) p h e =
+    let one : suc left - 1 ≡ left = omega arith in
+    record { is = rw (one, drop-drop n q t, e) }
 
 pub lines-none : (k : List ℕ) (n left : ℕ) (s : List ℕ) → left ≤ 0 → keyedLines k n left s ≡ []
 unfolding keyedLines

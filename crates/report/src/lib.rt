@@ -3,10 +3,9 @@
 // stays as it is.
 ghost use mathlib.Core.Path.{_≡_};
 ghost use Prim.Native.Nat.{_+_, _*_, _≤_};
-ghost use lib.ListN.{length, drop};
+ghost use lib.ListN.{drop};
 ghost use Rattle.buffer.specs.Written.{Wrote};
 ghost use Rattle.table.specs.Positions.{typeCount, diagramOf, Walkable};
-ghost use Rattle.numerals.specs.Lines.{Bounded};
 ghost use Rattle.report.specs.Printed.{typeLines, typesEnd, predBlock, predLines, sizeLines, cellLines, printed};
 
 // The values of the first n types.
@@ -61,7 +60,6 @@ fn push_pred(
     width: usize,
     size: usize,
 ) -> usize
-    requires { ⌜ Bounded p width size ⌝ }
     ensures { λ r. ⌜ Wrote (now (out .entry)) at (predBlock number width size (drop p (now (cells .entry)))) (now (out .exit)) r ⌝ }
 {
     let to = numerals::push_count(out, at, b"pred=", number);
@@ -93,7 +91,6 @@ fn push_preds(out: &mut [u8], at: usize, t: &[u32], cells: &[u32], first: usize)
 
 // The rounds, and the sizes of all sets.
 fn push_sizes(out: &mut [u8], rounds: u32, sizes: &[u32]) -> usize
-    requires { ⌜ length (now sizes) ≤ 208 ⌝ }
     ensures { λ r. ⌜ Wrote (now (out .entry)) 0 (sizeLines rounds (now (sizes .entry))) (now (out .exit)) r ⌝ }
 {
     let to = numerals::push_count(out, 0, b"rounds=", table::index(rounds));
@@ -113,7 +110,6 @@ fn push_cells(out: &mut [u8], at: usize, t: &[u32], cells: &[u32]) -> usize
 // The whole report.
 pub fn push_report(out: &mut [u8], t: &[u32], rounds: u32, sizes: &[u32], cells: &[u32]) -> usize
     requires { ⌜ Walkable (now t) ⌝ }
-    requires { ⌜ length (now sizes) ≤ 208 ⌝ }
     ensures { λ r. ⌜ Wrote (now (out .entry)) 0 (printed (diagramOf (now (t .entry))) (typeCount (now (t .entry))) rounds (now (sizes .entry)) (now (cells .entry))) (now (out .exit)) r ⌝ }
 {
     let to = push_sizes(out, rounds, sizes);

@@ -111,9 +111,9 @@ fn is_written_likewise(table: &[u32], form: Form) -> bool {
     let mut text = io::buffer();
     let answer = writer::write(table, &mut text);
     match answer {
-        writer::WriteAnswer::Refused { fault, line } => is_same(form, refused(fault, line)),
-        writer::WriteAnswer::TooShort { needed: _ } => false,
-        writer::WriteAnswer::Accepted { length } => {
+        reader::ReadAnswer::Refused { fault, line } => is_same(form, refused(fault, line)),
+        reader::ReadAnswer::TooShort { needed: _ } => false,
+        reader::ReadAnswer::Accepted { length } => {
             let n = cases::within(length, &text);
             is_read_as(&text[..n], table)
         }

@@ -63,9 +63,9 @@ fn is_text_of(table: &[u32], text: &[u8]) -> bool {
     let mut written = io::buffer();
     let answer = writer::write(table, &mut written);
     match answer {
-        writer::WriteAnswer::Refused { fault: _, line: _ } => false,
-        writer::WriteAnswer::TooShort { needed: _ } => false,
-        writer::WriteAnswer::Accepted { length } => {
+        reader::ReadAnswer::Refused { fault: _, line: _ } => false,
+        reader::ReadAnswer::TooShort { needed: _ } => false,
+        reader::ReadAnswer::Accepted { length } => {
             let n = cases::within(length, &written);
             check::same(&written[..n], text)
         }

@@ -4,7 +4,7 @@ use mathlib.Core.Path.{_≡_, refl, sym, ap, ap₂, _∙_}
 use mathlib.Core.List.{List, [], _∷_, _++_, map, flatMap, append-assoc}
 use lib.ListN.{length, getD, drop}
 use lib.Seq.{drop-drop}
-use Rattle.orm.specs.Diagram.{Diagram, Line, lineOfType, lineOfRole, lineOfGroup, lineOfPred, linesOfPred, lineOfCount, typesLine, predLine, predsLine, endLine, allRoles, lines}
+use Rattle.orm.specs.Diagram.{Diagram, Line, lineOfType, lineOfRole, lineOfGroup, lineOfPred, linesOfPred, lineOfCount, predLine, predsLine, endLine, allRoles, lines}
 use Rattle.orm.specs.Form.{typeOf, roleOf, groupOf}
 use Rattle.orm.specs.Text.{bytes, key, lineText, render}
 use Rattle.reading.specs.Exact.{written, written-append, written-one}
@@ -12,9 +12,9 @@ use Rattle.reading.specs.Cutting.{textForm}
 use Rattle.buffer.specs.Written.{Wrote, Writing, Splits}
 use Rattle.buffer.specs.Laws.{wrote-then, wrote-as, writing-start}
 use Rattle.table.specs.Positions.{each, typesIn, rolesIn, groupsIn, predOf, predLength, predsIn, typeCount, predCount, firstPredAt, diagramOf}
-use Rattle.table.specs.Laws.Walks.{each-length, preds-more, preds-none, preds-length}
+use Rattle.table.specs.Laws.Walks.{each-length, preds-more, preds-none}
 use Rattle.numerals.specs.Lines.{numbersFrom, keyed, keyedLines}
-use Rattle.writer.specs.Lines.{linesText, predLines, typesText, predsText}
+use Rattle.writer.specs.Lines.{linesText, linesToTypes, predLines, Counted}
 
 -- ---- lines of one kind
 
@@ -84,41 +84,34 @@ module _ (t : List ℕ) where
 
 -- ---- the diagram
 
+pub types-are : (t : List ℕ) {o o₁ o₂ o₃ : List ℕ} {a b c n : ℕ} → n ≡ length (diagramOf t .types)
+    → Wrote o 0 (keyed (bytes "diagram=") (1 ∷ [])) o₁ a → Wrote o₁ a (keyed (bytes "types=") (n ∷ [])) o₂ b
+    → Wrote o₂ b (keyedLines (bytes "type=") 6 n (drop 2 t)) o₃ c → Wrote o 0 (linesText (linesToTypes (diagramOf t))) o₃ c
+unfolding linesToTypes diagramOf written lineOfCount lineText bytes key keyed flatMap
+types-are t {n = n} e w₁ w₂ w₃ =
+    let count : n ≡ typeCount t = e ∙ each-length typeOf 6 (typeCount t) (drop 2 t) in
+    let shown : ℕ → List ℕ → List ℕ = λ m x. keyed (bytes "diagram=") (1 ∷ []) ++ (keyed (bytes "types=") (m ∷ []) ++ x) in
+    wrote-as (wrote-then w₁ (wrote-then w₂ w₃))
+    (ap₂ shown e (ap (λ (m : ℕ). keyedLines (bytes "type=") 6 m (drop 2 t)) count ∙ types-text (typeCount t) (drop 2 t)))
+
 text-whole : (d : Diagram)
-    → keyed (bytes "diagram=") (1 ∷ []) ++ (typesText d ++ (predsText d ++ keyed (bytes "end=") (length (allRoles d) ∷ []))) ≡ render d
-unfolding render lines written typesText predsText lineOfCount lineText bytes key keyed flatMap
+    → linesText (linesToTypes d)
+    ++ (keyed (bytes "preds=") (length (d .preds) ∷ []) ++ (predLines (d .preds) ++ keyed (bytes "end=") (length (allRoles d) ∷ [])))
+    ≡ render d
+unfolding linesToTypes render lines written lineOfCount lineText bytes key keyed flatMap
 text-whole d =
-    let ts : List Line = lineOfCount typesLine (length (d .types)) ∷ map lineOfType (d .types) in
     let ps : List Line = lineOfCount predsLine (length (d .preds)) ∷ flatMap linesOfPred (d .preds) in
-    let last : List ℕ = keyed (bytes "end=") (length (allRoles d) ∷ []) in
-    let front : List ℕ → List ℕ = λ x. keyed (bytes "diagram=") (1 ∷ []) ++ x in
+    let last : Line = lineOfCount endLine (length (allRoles d)) in
     sym
-    (ap front
-    (written-append textForm (ts ++ ps) (lineOfCount endLine (length (allRoles d)) ∷ [])
-    ∙ ap₂ {C = List ℕ} (λ a b. a ++ b) (written-append textForm ts ps) (written-one textForm (lineOfCount endLine (length (allRoles d))))
-    ∙ append-assoc (linesText ts) (linesText ps) last))
+    (written-append textForm (linesToTypes d ++ ps) (last ∷ [])
+    ∙ ap₂ {C = List ℕ} (λ a b. a ++ b) (written-append textForm (linesToTypes d) ps) (written-one textForm last)
+    ∙ append-assoc (linesText (linesToTypes d)) (linesText ps) (keyed (bytes "end=") (length (allRoles d) ∷ []))
+    ∙ ap (λ (x : List ℕ). linesText (linesToTypes d) ++ x)
+    (append-assoc (keyed (bytes "preds=") (length (d .preds) ∷ [])) (predLines (d .preds)) (keyed (bytes "end=") (length (allRoles d) ∷ []))))
 
-module _ (t : List ℕ) {o o₁ o₂ : List ℕ} {at a b : ℕ} where
-  pub types-is : {m n : ℕ} → m ≡ typeCount t → n ≡ m → Wrote o at (keyed (bytes "types=") (n ∷ [])) o₁ a
-      → Wrote o₁ a (keyedLines (bytes "type=") 6 n (drop 2 t)) o₂ b → Wrote o at (typesText (diagramOf t)) o₂ b
-  unfolding typesText diagramOf written lineOfCount lineText bytes key keyed flatMap
-  types-is {m} {n} em en w v =
-      let e : n ≡ typeCount t = en ∙ em in
-      let long : length (typesIn n (drop 2 t)) ≡ n = each-length typeOf 6 n (drop 2 t) in
-      rw (← e)
-      (wrote-as (wrote-then w v) (ap₂ (λ (m : ℕ) (x : List ℕ). keyed (bytes "types=") (m ∷ []) ++ x) (sym long) (types-text n (drop 2 t))))
-
-  pub preds-are : {m n : ℕ} → m ≡ predCount t → n ≡ m → Wrote o at (keyed (bytes "preds=") (n ∷ [])) o₁ a
-      → Wrote o₁ a (predLines (diagramOf t .preds)) o₂ b → Wrote o at (predsText (diagramOf t)) o₂ b
-  unfolding predsText diagramOf written lineOfCount lineText bytes key keyed flatMap
-  preds-are {m} {n} em en w v =
-      let e : n ≡ predCount t = en ∙ em in
-      let long : length (diagramOf t .preds) ≡ n = preds-length (predCount t) (drop (firstPredAt t) t) ∙ sym e in
-      wrote-as (wrote-then w v)
-      (ap (λ (m : ℕ). keyed (bytes "preds=") (m ∷ []) ++ predLines (diagramOf t .preds)) (sym long))
-
-pub text-is : (t : List ℕ) {o o₁ o₂ o₃ o₄ : List ℕ} {a b c d n : ℕ} → n ≡ length (allRoles (diagramOf t))
-    → Wrote o 0 (keyed (bytes "diagram=") (1 ∷ [])) o₁ a → Wrote o₁ a (typesText (diagramOf t)) o₂ b
-    → Wrote o₂ b (predsText (diagramOf t)) o₃ c → Wrote o₃ c (keyed (bytes "end=") (n ∷ [])) o₄ d
+pub text-is : (t : List ℕ) {o o₁ o₂ o₃ o₄ : List ℕ} {a b c d types preds roles : ℕ} → Counted t types preds roles
+    → Wrote o 0 (linesText (linesToTypes (diagramOf t))) o₁ a → Wrote o₁ a (keyed (bytes "preds=") (preds ∷ [])) o₂ b
+    → Wrote o₂ b (predLines (diagramOf t .preds)) o₃ c → Wrote o₃ c (keyed (bytes "end=") (roles ∷ [])) o₄ d
     → Wrote o 0 (render (diagramOf t)) o₄ d
-text-is t e w₁ w₂ w₃ w₄ = wrote-as (wrote-then w₁ (wrote-then w₂ (wrote-then w₃ w₄))) (rw e (text-whole (diagramOf t)))
+text-is t counted w₁ w₂ w₃ w₄ =
+    wrote-as (wrote-then w₁ (wrote-then w₂ (wrote-then w₃ w₄))) (rw (counted .preds, counted .roles) (text-whole (diagramOf t)))

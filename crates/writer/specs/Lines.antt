@@ -1,23 +1,27 @@
--- Words for what single functions write: the text of some lines of a diagram.
-use Prim.Native.Nat.{ℕ, zero, suc, _≤_}
-use mathlib.Core.List.{List, [], _∷_, _++_, map, flatMap}
-use lib.ListN.{length, getD}
-use Rattle.orm.specs.Diagram.{Predicate, Diagram, Line, typesLine, predsLine, lineOfType, linesOfPred, lineOfCount}
-use Rattle.orm.specs.Text.{valuesText}
+-- Words for what single functions write, and for what they are told of a table.
+use Prim.Native.Nat.{ℕ}
+use mathlib.Core.Path.{_≡_}
+use mathlib.Core.List.{List, _∷_, map, flatMap}
+use lib.ListN.{length}
+use Rattle.orm.specs.Diagram.{Predicate, Diagram, Line, diagramLine, typesLine, lineOfCount, lineOfType, linesOfPred, allRoles}
 use Rattle.reading.specs.Exact.{written}
 use Rattle.reading.specs.Cutting.{textForm}
-use Rattle.table.specs.Positions.{each}
+use Rattle.table.specs.Positions.{diagramOf, Walkable}
 
 -- The text of some lines
 abbrev pub linesText : List Line → List ℕ
 linesText ls = written textForm ls
 
+-- The lines up to the last type's
+unfoldable pub linesToTypes : Diagram → List Line
+linesToTypes d = lineOfCount diagramLine 1 ∷ lineOfCount typesLine (length (d .types)) ∷ map lineOfType (d .types)
+
 abbrev pub predLines : List Predicate → List ℕ
 predLines ps = linesText (flatMap linesOfPred ps)
 
--- The `types` line and the lines of the types; the `preds` line and the lines of the predicates
-unfoldable pub typesText : Diagram → List ℕ
-typesText d = linesText (lineOfCount typesLine (length (d .types)) ∷ map lineOfType (d .types))
-
-unfoldable pub predsText : Diagram → List ℕ
-predsText d = linesText (lineOfCount predsLine (length (d .preds)) ∷ flatMap linesOfPred (d .preds))
+-- A table whose diagram has so many types, predicates and roles
+pub record Counted (t : List ℕ) (m n r : ℕ) : Type 0 where
+  pub walkable : Walkable t
+  pub types : m ≡ length (diagramOf t .types)
+  pub preds : n ≡ length (diagramOf t .preds)
+  pub roles : r ≡ length (allRoles (diagramOf t))

@@ -1,45 +1,38 @@
 // Writing a diagram: from its table into its text.
 //
-// A buffer with room for every text is written straight. Else the text is put together in a scratch
-// buffer and copied at the end, so that a call whose text is too short writes nothing. The functions
-// below write from the index `at` on and answer the index behind what they wrote.
-mod digits;
-mod lines;
-
+// The text is put together in a scratch buffer and copied at the end, so that a call whose text is too
+// short writes nothing. The functions below write from the index `at` on and answer the index behind
+// what they wrote.
+use reader::ReadAnswer;
 ghost use mathlib.Core.Path.{_≡_};
-ghost use Prim.Native.Nat.{_≤_, _<_};
-ghost use lib.ListN.{length, drop};
-ghost use Rattle.orm.specs.Diagram.{linesOfPred, allRoles};
+ghost use mathlib.Core.List.{_++_};
+ghost use Prim.Native.Nat.{_+_, _≤_};
+ghost use lib.ListN.{length, take, drop};
+ghost use Rattle.orm.specs.Diagram.{linesOfPred};
 ghost use Rattle.orm.specs.Text.{render};
 ghost use Rattle.orm.specs.Outcome.{lengthOf, fitted, bufferAfter};
 ghost use Rattle.orm.specs.Calls.{writeCall};
 ghost use Rattle.buffer.specs.Written.{Wrote};
-ghost use Rattle.table.specs.Positions.{predOf, diagramOf, Walkable};
-ghost use Rattle.writer.specs.Lines.{linesText, predLines, typesText, predsText};
-ghost use Rattle.writer.specs.Answer.{writeOf};
-
-// How writing a table ends.
-pub enum WriteAnswer {
-    Accepted { length: usize },
-    Refused { fault: grammar::Fault, line: usize },
-    TooShort { needed: usize },
-}
+ghost use Rattle.table.specs.Positions.{predOf, predLength, diagramOf, Walkable};
+ghost use Rattle.reader.specs.Answer.{readOf};
+ghost use Rattle.writer.specs.Lines.{linesText, linesToTypes, predLines, Counted};
 
 // The lines of the predicate that starts at p.
 fn push_pred(t: &[u32], p: usize, out: &mut [u8], at: usize) -> usize
     requires { ⌜ Walkable (now t) ⌝ }
-    requires { ⌜ p ≤ 200000000 ⌝ }
+    requires { ⌜ p + predLength (drop p (now t)) ≤ length (now t) ⌝ }
     ensures { λ r. ⌜ Wrote (now (out .entry)) at (linesText (linesOfPred (predOf (drop p (now (t .entry)))))) (now (out .exit)) r ⌝ }
 {
-    let roles = table::index(table::field(t, p, 2));
-    let groups = table::index(table::field(t, p, 3));
+    let roles = table::index(table::number(t, p, 2));
+    let groups = table::index(table::number(t, p, 3));
     let first_group = p + (4 + 3 * roles);
-    let a = lines::line_of_four(out, at, b"pred=", t, p);
-    let b = lines::lines_of_three(out, a, b"role=", t, p + 4, roles);
-    lines::lines_of_two(out, b, b"freq=", t, first_group, groups)
+    let a = numerals::push_line(out, at, b"pred=", t, p, 4);
+    let b = numerals::push_lines(out, a, b"role=", t, p + 4, 3, roles);
+    numerals::push_lines(out, b, b"freq=", t, first_group, 2, groups)
 }
 
-fn push_each_pred(t: &[u32], out: &mut [u8], at: usize) -> usize
+// The lines of all predicates.
+fn push_preds(t: &[u32], out: &mut [u8], at: usize) -> usize
     requires { ⌜ Walkable (now t) ⌝ }
     ensures { λ r. ⌜ Wrote (now (out .entry)) at (predLines (diagramOf (now (t .entry)) .preds)) (now (out .exit)) r ⌝ }
 {
@@ -48,98 +41,76 @@ fn push_each_pred(t: &[u32], out: &mut [u8], at: usize) -> usize
     let mut to = at;
     while 0 < left {
         to = push_pred(t, p, out, to);
-        p = table::pred_end(t, p);
+        p = table::next_pred(t, p);
         left -= 1;
     }
     to
 }
 
-// The number of types and their lines.
-fn push_types(t: &[u32], out: &mut [u8], at: usize) -> usize
-    requires { ⌜ Walkable (now t) ⌝ }
-    ensures { λ r. ⌜ Wrote (now (out .entry)) at (typesText (diagramOf (now (t .entry)))) (now (out .exit)) r ⌝ }
+// The first line, the number of types and their lines.
+fn push_types(t: &[u32], types: usize, out: &mut [u8]) -> usize
+    requires { ⌜ types ≡ length (diagramOf (now t) .types) ⌝ }
+    ensures { λ r. ⌜ Wrote (now (out .entry)) 0 (linesText (linesToTypes (diagramOf (now (t .entry))))) (now (out .exit)) r ⌝ }
 {
-    let types = table::index(table::type_count(t));
-    let a = lines::count_by_six(out, at, b"types=", types);
-    lines::lines_of_six(out, a, b"type=", t, 2, types)
+    let a = numerals::push_count(out, 0, b"diagram=", 1);
+    let b = numerals::push_count(out, a, b"types=", types);
+    numerals::push_lines(out, b, b"type=", t, 2, 6, types)
 }
 
-// The number of predicates and their lines.
-fn push_preds(t: &[u32], out: &mut [u8], at: usize) -> usize
-    requires { ⌜ Walkable (now t) ⌝ }
-    ensures { λ r. ⌜ Wrote (now (out .entry)) at (predsText (diagramOf (now (t .entry)))) (now (out .exit)) r ⌝ }
-{
-    let a = lines::count_by_six(out, at, b"preds=", table::index(table::pred_count(t)));
-    push_each_pred(t, out, a)
-}
-
-// The text of the diagram, which has so many roles.
-fn push_text(t: &[u32], roles: usize, out: &mut [u8]) -> usize
-    requires { ⌜ Walkable (now t) ⌝ }
-    requires { ⌜ roles ≡ length (allRoles (diagramOf (now t))) ⌝ }
-    requires { ⌜ roles < 1000000 ⌝ }
+// The text of the diagram, which has so many types, predicates and roles.
+fn push_text(t: &[u32], types: usize, preds: usize, roles: usize, out: &mut [u8]) -> usize
+    requires { ⌜ Counted (now t) types preds roles ⌝ }
     ensures { λ r. ⌜ Wrote (now (out .entry)) 0 (render (diagramOf (now (t .entry)))) (now (out .exit)) r ⌝ }
 {
-    let a = lines::count_by_eight(out, 0, b"diagram=", 1);
-    let b = push_types(t, out, a);
+    let a = push_types(t, types, out);
+    let b = numerals::push_count(out, a, b"preds=", preds);
     let c = push_preds(t, out, b);
-    lines::count_by_four(out, c, b"end=", roles)
+    numerals::push_count(out, c, b"end=", roles)
 }
 
-// The bytes go to the front of the text if it is long enough.
-fn hand_out(bytes: &[u8], text: &mut [u8]) -> WriteAnswer
-    ensures { λ r. ⌜ writeOf r ≡ lengthOf (fitted (length (now (text .entry))) (now (bytes .entry))) ⌝ }
-    ensures { λ _. ⌜ now (text .exit) ≡ bufferAfter (fitted (length (now (text .entry))) (now (bytes .entry))) (now (text .entry)) ⌝ }
+// The first `n` bytes of `src` go to the front of `dst`.
+fn copy(src: &[u8], n: usize, dst: &mut [u8])
+    requires { ⌜ n ≤ length (now src) ⌝ }
+    requires { ⌜ n ≤ length (now dst) ⌝ }
+    ensures { λ _. ⌜ now (dst .exit) ≡ take n (now (src .entry)) ++ drop n (now (dst .entry)) ⌝ }
 {
-    if text.len() < bytes.len() {
-        return WriteAnswer::TooShort {
-            needed: bytes.len(),
-        };
+    let mut i = 0;
+    while i < n {
+        dst[i] = src[i];
+        i += 1;
     }
-    buffer::bytes::append(text, 0, bytes);
-    WriteAnswer::Accepted {
-        length: bytes.len(),
+}
+
+// The first `n` bytes go to the front of the text, if it has room for them.
+fn hand_out(n: usize, bytes: &[u8], text: &mut [u8]) -> ReadAnswer
+    requires { ⌜ n ≤ length (now bytes) ⌝ }
+    ensures { λ r. ⌜ readOf r ≡ lengthOf (fitted (length (now (text .entry))) (take n (now (bytes .entry)))) ⌝ }
+    ensures { λ _. ⌜ now (text .exit) ≡ bufferAfter (fitted (length (now (text .entry))) (take n (now (bytes .entry)))) (now (text .entry)) ⌝ }
+{
+    if text.len() < n {
+        return ReadAnswer::TooShort { needed: n };
     }
+    copy(bytes, n, text);
+    ReadAnswer::Accepted { length: n }
 }
 
 // Writes by way of `bytes`.
-fn write_by(table: &[u32], bytes: &mut [u8], text: &mut [u8]) -> WriteAnswer
+fn write_by(table: &[u32], bytes: &mut [u8], text: &mut [u8]) -> ReadAnswer
     requires { ⌜ length (now bytes) ≡ 3603 ⌝ }
-    ensures { λ r. ⌜ writeOf r ≡ lengthOf (writeCall (now (table .entry)) (length (now (text .entry)))) ⌝ }
+    ensures { λ r. ⌜ readOf r ≡ lengthOf (writeCall (now (table .entry)) (length (now (text .entry)))) ⌝ }
     ensures { λ _. ⌜ now (text .exit) ≡ bufferAfter (writeCall (now (table .entry)) (length (now (text .entry)))) (now (text .entry)) ⌝ }
 {
     let form = reader::form(table);
     match form {
-        reader::FormAnswer::Refused { fault, line } => WriteAnswer::Refused { fault, line },
+        reader::FormAnswer::Refused { fault, line } => ReadAnswer::Refused { fault, line },
         reader::FormAnswer::Accepted {
-            types: _,
-            preds: _,
+            types,
+            preds,
             roles,
             groups: _,
         } => {
-            let n = push_text(table, roles, bytes);
-            hand_out(&bytes[..n], text)
-        }
-    }
-}
-
-// Writes with no way round: there is room for every text.
-fn write_straight(table: &[u32], text: &mut [u8]) -> WriteAnswer
-    requires { ⌜ 3603 ≤ length (now text) ⌝ }
-    ensures { λ r. ⌜ writeOf r ≡ lengthOf (writeCall (now (table .entry)) (length (now (text .entry)))) ⌝ }
-    ensures { λ _. ⌜ now (text .exit) ≡ bufferAfter (writeCall (now (table .entry)) (length (now (text .entry)))) (now (text .entry)) ⌝ }
-{
-    let form = reader::form(table);
-    match form {
-        reader::FormAnswer::Refused { fault, line } => WriteAnswer::Refused { fault, line },
-        reader::FormAnswer::Accepted {
-            types: _,
-            preds: _,
-            roles,
-            groups: _,
-        } => {
-            let n = push_text(table, roles, text);
-            WriteAnswer::Accepted { length: n }
+            let n = push_text(table, types, preds, roles, bytes);
+            hand_out(n, bytes, text)
         }
     }
 }
@@ -150,13 +121,10 @@ fn scratch() -> [u8; 3603] {
 }
 
 // Writes the text of a diagram from its table.
-pub fn write(table: &[u32], text: &mut [u8]) -> WriteAnswer
-    ensures { λ r. ⌜ writeOf r ≡ lengthOf (writeCall (now (table .entry)) (length (now (text .entry)))) ⌝ }
+pub fn write(table: &[u32], text: &mut [u8]) -> ReadAnswer
+    ensures { λ r. ⌜ readOf r ≡ lengthOf (writeCall (now (table .entry)) (length (now (text .entry)))) ⌝ }
     ensures { λ _. ⌜ now (text .exit) ≡ bufferAfter (writeCall (now (table .entry)) (length (now (text .entry)))) (now (text .entry)) ⌝ }
 {
-    if 3603 <= text.len() {
-        return write_straight(table, text);
-    }
     let mut bytes = scratch();
     write_by(table, &mut bytes, text)
 }

@@ -1,6 +1,6 @@
 -- `command::print_cells` meets its contract. What populating promises decides what is printed.
 -- Assumes nothing.
-use Rattle.command.proofs.Prints.{table-walkable, sizes-208, fill-faulty, fill-emptied, fill-short, cells-within, cells-count, fill-printed}
+use Rattle.command.proofs.Prints.{table-walkable, fill-faulty, fill-emptied, fill-short, cells-within, cells-count, fill-printed}
 use borrow.Author.Needs.{needs}
 use Rattle.command.proofs.print_cells.Statement.{statement}
 use Rattle.command.proofs.print_cells.Tie as tie
@@ -21,7 +21,7 @@ print-cells-spec =
     (λ c. search needs)
     (λ c. search (needs, cells-within))
     (λ c. search (needs, cells-count))
-    (λ c κs. (search (needs, table-walkable), search (needs, sizes-208)))
+    (λ c κs. search (needs, table-walkable))
     (λ c. search needs)
     (λ c. search needs)
     (λ c. search (needs, fill-faulty))

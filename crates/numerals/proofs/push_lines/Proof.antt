@@ -1,6 +1,5 @@
 -- `numerals::push_lines` meets its contract. The lines left come to the whole.
 -- Assumes nothing.
-use Prim.Native.Nat.{_+_, _*_, _≤_}
 use lib.ListN.{drop}
 use Rattle.buffer.specs.Written.{Writing}
 use Rattle.buffer.specs.Laws.{writing-start, writing-more, writing-all, writing-long}
@@ -11,8 +10,8 @@ use Rattle.numerals.proofs.push_lines.Statement.{statement}
 use Rattle.numerals.proofs.push_lines.Tie as tie
 
 abbrev Inv-loop : tie.InvT-loop
-Inv-loop out₀ at key xs p n count left₀ q₀ to₀ out left q to = (q + 1000000 * left ≤ 1100000000000000000) × Writing out₀ at
-    (keyedLines key n count (drop p xs)) out to (keyedLines key n left (drop q xs))
+Inv-loop out₀ at key xs p n count left₀ q₀ to₀ out left q to = Writing out₀ at (keyedLines key n count (drop p xs)) out to
+    (keyedLines key n left (drop q xs))
 
 abbrev μ-loop : tie.MeasureT-loop
 μ-loop out₀ at key xs p n count left₀ q₀ to₀ out left q to = left
@@ -25,7 +24,7 @@ push-lines-spec =
     μ-loop
     (λ c. search (needs, writing-start))
     (λ c κs. search needs)
-    (λ c. search needs)
+    (λ c κs. search needs)
     (λ c. search needs)
     (λ c. search needs)
     (λ c. search (needs, writing-more, lines-more))

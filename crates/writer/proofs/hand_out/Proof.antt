@@ -1,6 +1,6 @@
 -- `writer::hand_out` meets its contract. A text that is too short stays as it is.
 -- Assumes nothing.
-use Rattle.writer.proofs.Answers.{short-outcome, short-kept, fits-outcome, fits-written}
+use Rattle.reader.proofs.Copied.{short-outcome, short-kept, fits-outcome, fits-written}
 use borrow.Author.Needs.{needs}
 use Rattle.writer.proofs.hand_out.Statement.{statement}
 use Rattle.writer.proofs.hand_out.Tie as tie

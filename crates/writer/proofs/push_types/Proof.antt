@@ -1,6 +1,6 @@
--- `writer::push_types` meets its contract. Their number, then their lines.
+-- `writer::push_types` meets its contract. The first line, their number, then their lines.
 -- Assumes nothing.
-use Rattle.writer.proofs.Texts.{types-is}
+use Rattle.writer.proofs.Texts.{types-are}
 use Rattle.orm.specs.Text.{bytes}
 use borrow.Author.Needs.{needs}
 use Rattle.writer.proofs.push_types.Statement.{statement}
@@ -11,11 +11,11 @@ unfolding bytes
 push-types-spec =
     tie.close
     (tie.spec
+    (λ c. search needs)
     (λ c κs. search needs)
+    (λ c. search needs)
     (λ c κs. search needs)
     (λ c. search needs)
     (λ c κs. search needs)
     (λ c. search needs)
-    (λ c κs. (search needs, (search needs, search needs)))
-    (λ c. search needs)
-    (λ c. search (needs, types-is)))
+    (λ c. search (needs, types-are)))

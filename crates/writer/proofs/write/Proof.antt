@@ -1,4 +1,4 @@
--- `writer::write` meets its contract. Straight where there is room for every text, else by way of a scratch buffer.
+-- `writer::write` meets its contract, by way of a scratch buffer.
 -- Assumes nothing.
 use borrow.Author.Needs.{needs}
 use Rattle.writer.proofs.write.Statement.{statement}
@@ -8,9 +8,6 @@ pub write-spec : {M : Type 1} → statement M
 write-spec =
     tie.close
     (tie.spec
-    (λ c κs. search needs)
-    (λ c. search needs)
-    (λ c. search needs)
     (λ c κs. search needs)
     (λ c. search needs)
     (λ c κs. search needs)

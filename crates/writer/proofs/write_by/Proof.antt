@@ -1,6 +1,6 @@
 -- `writer::write_by` meets its contract. A table that is refused leaves the text as it is; of another, the scratch holds the text.
 -- Assumes nothing.
-use Rattle.writer.proofs.Answers.{refused-outcome, refused-kept, walkable, roles-are, roles-few, front-within, front-count, whole-outcome, whole-written}
+use Rattle.writer.proofs.Answers.{refused-outcome, refused-kept, counted, front-within, whole-outcome, whole-written}
 use borrow.Author.Needs.{needs}
 use Rattle.writer.proofs.write_by.Statement.{statement}
 use Rattle.writer.proofs.write_by.Tie as tie
@@ -12,10 +12,8 @@ write-by-spec =
     (λ c κs. search needs)
     (λ c. search needs)
     (λ c. search needs)
-    (λ c κs. (search (needs, walkable), (search (needs, roles-are), search (needs, roles-few))))
-    (λ c. search (needs, front-within))
-    (λ c. search (needs, front-count))
-    (λ c κs. search needs)
+    (λ c κs. search (needs, counted))
+    (λ c κs. search (needs, front-within))
     (λ c. search (needs, refused-outcome, refused-kept))
     (λ c. search needs)
     (λ c. search needs)

@@ -1,8 +1,12 @@
 -- Demand 3 as one statement: the record `Guarantee` at the end of this file, with its one proof in `Proof`. The demand, quoted at its fields:
 --
---     For every diagram with no fault of form: after every number of rounds the ceilings bound every population; check and fill refuse as
---     emptied, with document 01's set and round, exactly when no population exists; otherwise the settled sizes and the fill's cells are
---     written, the cells meet every constraint, each set has exactly its settled size, and no population has more in any set.
+--     This holds for every diagram, table or text, with no fault of form (refusals 1 to 6). From such a text reading makes the table with the
+--     same numbers, if the lent space is long enough. After every number of rounds, none included, no population that meets all the diagram's
+--     constraints has more members in any set than the ceiling then standing. Check and fill alike refuse the diagram as emptied, with the
+--     set and round of document 01, exactly when no population meets them all, however short the lent space. Otherwise, if the lent space is
+--     long enough, check writes the settled sizes, and fill writes the cells of document 01's filling. These cells are a population that
+--     meets them all, in which each set has exactly its settled size; every other population that meets them all has at most as many members
+--     in each set.
 --
 -- It holds of every text, table, list of cells, number of rounds and buffer (document 01: lent space), with no assumption. `readCall`, `checkCall`
 -- and `populateCall` (document 01: reading, check, fill) are the outcomes that the public functions promise for a buffer of the length `space`, and
@@ -34,7 +38,8 @@ NoPopulation d = (s : List ℕ) → ¬ ValidPopulation d s
 
 -- Of a text of the diagram
 pub record TextGuarantee (text : List ℕ) (d : Diagram) : Type 0 where
-  -- 'Reading takes text and gives the table' (document 01), with the numbers of the text
+  -- 'From such a text reading makes the table with the same numbers, if the lent space is long enough': the text and the table are those of
+  -- one diagram
   pub same-numbers : text ≡ render d
   pub reads : (space : ℕ) → length (table d) ≤ space → readCall text space ≡ accepted (table d)
   pub front : (buffer : List ℕ) → length (table d) ≤ length buffer
@@ -46,11 +51,11 @@ pub record TextGuarantee (text : List ℕ) (d : Diagram) : Type 0 where
 
 -- ---- check and populate: rounds from the diagram's own bounds
 
--- 'document 01's set and round'
+-- 'the set and round of document 01'
 abbrev pub EmptiedAt : Diagram → ℕ → ℕ → Type 0
 EmptiedAt d place round = EmptiedFrom d (lower d) (upper d) place round
 
--- 'refuse as emptied, with document 01's set and round, exactly when no population exists', whatever the buffer
+-- 'refuse the diagram as emptied, with the set and round of document 01, exactly when no population meets them all, however short the lent space'
 abbrev pub RefusesEmptied : Diagram → (ℕ → Outcome Sized) → Type 0
 RefusesEmptied d call = RefusesBy 7 d (lower d) (upper d) (NoPopulation d) call
 
@@ -62,24 +67,26 @@ pub record Populated (t : List ℕ) (d : Diagram) : Type 0 where
   pub rounds : ℕ
   pub settled : List ℕ
   pub settled-after : SettledAfter d rounds settled
-  -- 'the settled sizes and the fill's cells are written'
+  -- 'if the lent space is long enough, check writes the settled sizes'
   pub check-writes : Writes (checkCall t) rounds settled
+  -- 'and fill writes the cells of document 01's filling'
   pub populate-writes : Writes (populateCall t) rounds (cells (population d settled))
-  -- 'the cells meet every constraint'
+  -- 'These cells are a population that meets them all'
   pub cells-meet : ValidPopulation d (cells (population d settled))
-  -- 'each set has exactly its settled size'
+  -- 'in which each set has exactly its settled size'
   pub exact : sizes d (cells-meet .population) ≡ settled
-  -- 'no population has more in any set'
+  -- 'every other population that meets them all has at most as many members in each set'
   pub greatest : (s : List ℕ) (o : ValidPopulation d s) → sizes d (o .population) ≼ settled
 
 -- Of a table of the diagram
 pub record TableGuarantee (t : List ℕ) (d : Diagram) : Type 0 where
-  -- 'after every number of rounds the ceilings bound every population'
+  -- 'After every number of rounds, none included, no population that meets all the diagram's constraints has more members in any set than the
+  -- ceiling then standing'
   pub bounded : (rounds : ℕ) (s : List ℕ) (o : ValidPopulation d s) → sizes d (o .population) ≼ upperAfterRounds d rounds
-  -- 'check and fill refuse as emptied .. exactly when no population exists'
+  -- 'Check and fill alike refuse the diagram as emptied ..'
   pub check-refuses : RefusesEmptied d (checkCall t)
   pub populate-refuses : RefusesEmptied d (populateCall t)
-  -- 'otherwise'
+  -- 'Otherwise ..'
   pub otherwise : ¬ NoPopulation d → Populated t d
   -- a population is what validating says yes of, and its sizes are those of the cells cut by their own size cells
   pub judged : (s : List ℕ) → (validateCall t s ≡ accepted valid) ↔ ValidPopulation d s
@@ -97,7 +104,7 @@ pub record FaultOfForm {A : Type 0} (call : ℕ → Outcome A) : Type 0 where
   pub refuses : (space : ℕ) → call space ≡ refused number place 0
 
 pub record Guarantee : Type 0 where
-  -- 'For every diagram with no fault of form', as a text or as a table
+  -- 'This holds for every diagram, table or text, with no fault of form (refusals 1 to 6)'
   pub of-text : (text : List ℕ) (d : Diagram) → diagramIn textLine text ≡ accepted d → TextGuarantee text d
   pub of-table : (t : List ℕ) (d : Diagram) → diagramIn tableLine t ≡ accepted d → TableGuarantee t d
   -- these are the texts and tables of the well-formed diagrams, all of them

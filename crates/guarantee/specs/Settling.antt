@@ -11,7 +11,7 @@ use Rattle.orm.specs.Diagram.{Diagram}
 use Rattle.orm.specs.Sets.{limits, verdictFrom}
 use Rattle.orm.specs.Outcome.{Outcome, refused, accepted, bufferAfter, Sized, written, handedBack}
 
--- 'document 01's set and round', of rounds from these bounds; the place is the set's number, from 1
+-- 'the set and round of document 01', of rounds from these bounds; the place is the set's number, from 1
 pub record EmptiedFrom (d : Diagram) (low high : List ℕ) (place round : ℕ) : Type 0 where
   pub set : ℕ
   pub numbered : place ≡ suc set
@@ -30,7 +30,7 @@ pub record SettledFrom (d : Diagram) (low high : List ℕ) (rounds : ℕ) (settl
   -- these upper bounds stand after so many rounds, of which the last, and no other, lowered nothing; none was ever below its lower bound
   pub meaning : Fixpoint (limits d) low high rounds settled
 
--- The result is 'written', and the rounds are handed back; a buffer that is too short is refused
+-- The result is written, and the rounds are handed back; a buffer that is too short is refused
 pub record Writes (call : ℕ → Outcome Sized) (rounds : ℕ) (result : List ℕ) : Type 0 where
   pub writes : (space : ℕ) → length result ≤ space → call space ≡ accepted (record { rounds = rounds; result = result })
   pub front : (buffer : List ℕ) → length result ≤ length buffer

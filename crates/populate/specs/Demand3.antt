@@ -42,7 +42,7 @@ pub record HasPopulated (t before : List ℕ) (r : PopulateAnswer) (after : List
 
 -- ---- what the answers mean
 
--- 'refuse as emptied, with document 01's set and round', where no population exists; the buffer stays
+-- 'refuse the diagram as emptied, with the set and round of document 01', where no population exists; the buffer stays
 pub record Emptied (d : Diagram) (set round : ℕ) (before after : List ℕ) : Type 0 where
   pub none : NoPopulation d
   pub at : EmptiedAt d set round
@@ -63,7 +63,7 @@ pub record Written (t : List ℕ) (d : Diagram) (result : Populated t d → List
   pub length-written : n ≡ length (result populated)
   pub front : after ≡ result populated ++ drop n before
 
--- 'the settled sizes', and 'the fill's cells'
+-- 'the settled sizes', and 'the cells of document 01's filling'
 abbrev pub settledSizes : {t : List ℕ} {d : Diagram} → Populated t d → List ℕ
 settledSizes p = p .settled
 
@@ -85,7 +85,8 @@ PopulateMeans t d (fills.Accepted n rounds) before after = Written t d populatio
 
 -- Of a table of the diagram
 pub record TableMeans (t : List ℕ) (d : Diagram) : Type 0 where
-  -- 'after every number of rounds the ceilings bound every population'
+  -- 'After every number of rounds, none included, no population that meets all the diagram's constraints has more members in any set than the
+  -- ceiling then standing'
   pub bounded : (rounds : ℕ) (s : List ℕ) (o : ValidPopulation d s) → sizes d (o .population) ≼ upperAfterRounds d rounds
   pub check : (before after : List ℕ) (r : CheckAnswer) → HasChecked t before r after → CheckMeans t d r before after
   pub populate : (before after : List ℕ) (r : PopulateAnswer) → HasPopulated t before r after → PopulateMeans t d r before after

@@ -1,5 +1,3 @@
+pub mod Taking
+pub mod Linking
 pub mod Walks
-pub mod Left
-pub mod Counts
-pub mod Index
-pub mod Sets

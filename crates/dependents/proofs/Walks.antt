@@ -1,115 +1,157 @@
--- Loops over operands, indices and sets: what is left decides, or lowers, as the whole does.
-use Prim.Native.Nat.{ℕ, zero, suc, _+_, _-_, _≤_, _<_}
-use native.Mathlib.Numerals.{add-one}
+-- The loops that put limits to use: along the operands that name a set, and over the sets that changed.
+use Prim.Native.Nat.{ℕ, suc, _+_, _*_, _≤_, _<_}
+use mathlib.Core.Path.{_≡_, refl, sym, ap, subst, subst⁻¹, _∙_}
+use mathlib.Core.List.{List}
+use native.Mathlib.Nat.{le-trans}
+use native.Mathlib.Decide.{decLe, ℕ-discrete}
 use native.Mathlib.Omega.{arith}
-use mathlib.Core.Path.{_≡_, refl, sym, ap, _∙_, subst, subst⁻¹}
-use mathlib.Core.Bool.{Bool, true, false}
-use mathlib.Core.List.{List, [], _∷_, _++_}
-use lib.Dec.{ltb}
-use lib.ListN.{length, getD, take, drop, drop-of-length-le}
-use lib.Seq.{drop-cons}
-use borrow.Author.Tests.{ltb-false, eq-eqb, ne-eqb}
-use Rattle.fixpoint.specs.Limits.{Limit, lowered, loweredBy}
-use Rattle.lowering.specs.Encoding.{limitAt}
-use Rattle.lowering.specs.Closed.{Start, first, behind, Whole, Closed}
-use Rattle.lowering.specs.Laws.Lowered.{length-lowered}
-use Rattle.dependents.specs.Dependents.{operandsAt, has, reads, when, dependentsFrom, dependents, limitsAt}
-use Rattle.dependents.specs.Dependents.{Row, Within}
-use Rattle.dependents.specs.Passes.{At}
+use lib.ListN.{length, getD, take}
+use lib.Seq.{length-take-le}
+use mir.Syntax.{w64}
+use mir.Val.{Fits}
+use Rattle.fixpoint.specs.Limits.{lowered, round}
+use Rattle.fixpoint.specs.Notions.{_≼_}
+use Rattle.fixpoint.specs.Laws.Order.{≼-refl, ≼-trans}
+use Rattle.buffer.specs.Written.{Wrote}
+use Rattle.lowering.specs.Sizes.{Small}
+use Rattle.lowering.specs.Encoding.{limitAt, decode}
+use Rattle.lowering.specs.Closed.{Whole}
+use Rattle.dependents.specs.Dependents.{Operand, Names, Last, Linked, differing, Lowering, Done, Served, Used, Due}
+use Rattle.dependents.specs.Laws.Starts.{operand-room, operand-whole, operand-within}
+use Rattle.dependents.specs.Laws.Lowering.{lowering-start, lowering-more, lowered-≼, lowered-done, done-since, served-since, due-round}
+use Rattle.dependents.specs.Laws.Differing.{differing-below}
 
--- ---- operands
+pub lowering-small : {xs old new : List ℕ} → Lowering xs old new → Small old → Small new
+lowering-small w s = record { at = λ k. le-trans (w .below .entry k) (s .at k) }
 
-module _ (ss : List ℕ) (s i : ℕ) where
-  abbrev pub Has : Type 0
-  Has = has (drop i ss) s ≡ has ss s
+-- ---- along the operands that name the set s: the limits of those behind q have been put to use
 
-  pub has-here : {o : ℕ} → Has → i < length ss → o ≡ getD ss i 0 → o ≡ s → true ≡ has ss s
-  unfolding has
-  has-here w h e q = rw (drop-cons ss i 0 h, eq-eqb (getD ss i 0) s (sym e ∙ q), has) at w
+pub record Walking (xs : List ℕ) (s : ℕ) (old new₀ : List ℕ) (q : ℕ) (new : List ℕ) : Type 0 where
+  pub lowering : Lowering xs old new
+  pub since : new ≼ new₀
+  pub names : 0 < q → Names xs s (length xs) q
+  pub served : (p r : ℕ) → Operand xs p r → getD xs r 0 ≡ s → q < r → Done xs old new p
 
-  pub has-none : Has → length ss ≤ i → false ≡ has ss s
-  unfolding has
-  has-none w h = rw (drop-of-length-le ss h) at w
+module _ (xs links old : List ℕ) (s : ℕ) (k : Linked xs (length old) (length xs) links) where
+  pub head-there : s < length old → s < length links
+  head-there h = omega (arith, k .room .places)
 
-pub has-more : (ss : List ℕ) (s i : ℕ) {o : ℕ} → Has ss s i → i < length ss → o ≡ getD ss i 0 → (o ≡ s → ⊥) → Has ss s (i + 1)
-unfolding has
-has-more ss s i w h e n = rw add-one (rw (drop-cons ss i 0 h, ne-eqb (getD ss i 0) s (λ q. n (e ∙ q)), has) at w)
+  pub walking-start : {new : List ℕ} {q : ℕ} → q ≡ getD links s 0 → s < length old → Lowering xs old new → Walking xs s old new q new
+  walking-start e h w =
+      let l : Last xs s (length xs) (getD links s 0) = k .index .head s h in
+      rw e (record {
+        lowering = w;
+        since = ≼-refl _;
+        names = l .names;
+        served = λ p r o z b. absurd (omega (arith, l .last p r o z (operand-within (k .closed) o)));
+      })
 
--- ---- limits put to use
+  module _ (q : ℕ) (new₀ new : List ℕ) (w : Walking xs s old new₀ q new) (n : q ≡ 0 → ⊥) where
+    here : Names xs s (length xs) q
+    here = w .names (omega (arith, n))
 
-module _ (xs ps old new₀ : List ℕ) where
-  -- what is left from the index `i` on leads to the whole
-  abbrev pub Using : ℕ → List ℕ → Type 0
-  Using i new = loweredBy old (limitsAt xs (drop i ps)) new ≡ loweredBy old (limitsAt xs ps) new₀
+    pub walk-double : Fits w64 (2 * q)
+    walk-double = record { fits = omega (arith, here .before, k .room .narrow) }
 
-  pub using-more : (i : ℕ) (new : List ℕ) {new′ : List ℕ} → Using i new → i < length ps
-      → new′ ≡ lowered old (limitAt xs (getD ps i 0)) new → Using (i + 1) new′
-  unfolding loweredBy
-  using-more i new w h e = rw (add-one, e) (rw (drop-cons ps i 0 h) at w)
+    pub walk-place : Fits w64 (length old + 2 * q)
+    walk-place = record { fits = omega (arith, here .before, k .room .narrow) }
 
-  pub using-all : (i : ℕ) (new : List ℕ) → Using i new → length ps ≤ i → new ≡ loweredBy old (limitsAt xs ps) new₀
-  unfolding loweredBy
-  using-all i new w h = rw (drop-of-length-le ps h) at w
+    pub walk-next-place : Fits w64 (length old + 2 * q + 1)
+    walk-next-place = record { fits = omega (arith, here .before, k .room .narrow) }
 
-pub within-here : (xs : List ℕ) (n : ℕ) (ps : List ℕ) (i : ℕ) → Within xs n ps → i < length ps → Whole xs n (getD ps i 0)
-within-here xs n ps i w h = w .at i h
+    pub walk-link : length old + 2 * q < length links
+    walk-link = omega (arith, here .before, k .room .places)
 
-pub long-step : (old new y : List ℕ) (l : Limit) {x : List ℕ} → x ≡ lowered old l new → length new ≡ length y → length x ≡ length y
-long-step old new y l e h = ap length e ∙ length-lowered old new l ∙ h
+    pub walk-behind : length old + 2 * q + 1 < length links
+    walk-behind = omega (arith, here .before, k .room .places)
 
-within-cons : (xs : List ℕ) (n : ℕ) (b : Bool) (p : ℕ) (ps : List ℕ) → Whole xs n p → Within xs n ps → Within xs n (when b p ++ ps)
-within-cons xs n true p ps h w = record { at = go }
-  where
-    go : (k : ℕ) → k < length (p ∷ ps) → Whole xs n (getD (p ∷ ps) k 0)
-    go zero l = h
-    go (suc k) l = w .at k (omega arith)
-within-cons xs n false p ps h w = w
+    owner : getD links (length old + 2 * q + 1) 0 ≡ here .limit
+    owner = k .index .owner (here .limit) q (here .operand) (here .before)
 
-within-from : (xs : List ℕ) (n s m at : ℕ) → Closed xs n → Start xs at → Within xs n (dependentsFrom s m xs at)
-unfolding dependentsFrom
-within-from xs n s zero at c q = record { at = λ k h. absurd (omega arith) }
-within-from xs n s (suc m) at c q = go (ltb (length xs) (at + 4)) refl (within-from xs n s m (at + 4 + getD xs (at + 3) 0) c)
-  where
-    rest : List ℕ
-    rest = dependentsFrom s m xs (at + 4 + getD xs (at + 3) 0)
+    pub walk-whole : {p : ℕ} → p ≡ getD links (length old + 2 * q + 1) 0 → Whole xs (length old) p
+    walk-whole e = rw (e, owner) (operand-whole (k .closed) (here .operand))
 
-    go : (b : Bool) → ltb (length xs) (at + 4) ≡ b → (Start xs (at + 4 + getD xs (at + 3) 0) → Within xs n rest)
-        → Within xs n (elim b as (λ _. List ℕ) [ true ↦ [] | false ↦ when (reads (operandsAt xs at) s) at ++ rest ])
-    go true t w = record { at = λ k h. absurd (omega arith) }
-    go false t w =
-        let h : at + 4 ≤ length xs = ltb-false (length xs) (at + 4) t in
-        within-cons xs n (reads (operandsAt xs at) s) at rest (c .whole at q h) (w (behind q h))
+    before : Last xs s q (getD links (length old + 2 * q) 0)
+    before = rw (here .is) at (k .index .link (here .limit) q (here .operand) (here .before))
 
-module _ (xs starts entries : List ℕ) (s : ℕ) (r : Row xs starts entries s) where
-  pub row-entries : (n : ℕ) → Closed xs n → Within xs n (take (getD starts (s + 1) 0 - getD starts s 0) (drop (getD starts s 0) entries))
-  unfolding dependents
-  row-entries n c = subst⁻¹ (Within xs n) (r .is) (within-from xs n s (length xs) 0 c first)
+    pub walk-less : {q′ : ℕ} → q′ ≡ getD links (length old + 2 * q) 0 → q′ < q
+    walk-less e = rw e (go (decLe 1 (getD links (length old + 2 * q) 0)))
+      where
+        go : Dec (1 ≤ getD links (length old + 2 * q) 0) → getD links (length old + 2 * q) 0 < q
+        go (yes h) = before .names h .before
+        go (no h) = omega (arith, n)
 
-  pub row-used : (old new : List ℕ) {new′ : List ℕ}
-      → new′ ≡ loweredBy old (limitsAt xs (take (getD starts (s + 1) 0 - getD starts s 0) (drop (getD starts s 0) entries))) new
-      → new′ ≡ loweredBy old (limitsAt xs (dependents xs s)) new
-  row-used old new e = e ∙ ap (λ (ps : List ℕ). loweredBy old (limitsAt xs ps) new) (r .is)
+    walk-next : {new′ : List ℕ} → new′ ≡ lowered old (limitAt xs (here .limit)) new
+        → Walking xs s old new₀ (getD links (length old + 2 * q) 0) new′
+    walk-next {new′} e = record {
+      lowering = lowering-more xs old new (here .limit) e (here .operand .start) (operand-room (here .operand)) (w .lowering);
+      since = ≼-trans below (w .since);
+      names = λ h. let b = before .names h in record { limit = b .limit; operand = b .operand; is = b .is; before = omega (arith, b .before, here .before) };
+      served = λ p r o z b. go p r o z b (decLe r q) (decLe q r);
+    }
+      where
+        below : new′ ≼ new
+        below = lowered-≼ xs old new (here .limit) e
 
--- ---- a walk over the limits
+        go : (p r : ℕ) → Operand xs p r → getD xs r 0 ≡ s → getD links (length old + 2 * q) 0 < r → Dec (r ≤ q) → Dec (q ≤ r)
+            → Done xs old new′ p
+        go p r o z b (no h) _ = done-since below (w .served p r o z (omega arith))
+        go p r o z b (yes h) (no l) = absurd (omega (arith, before .last p r o z (omega arith)))
+        go p r o z b (yes h) (yes l) =
+            let a : r ≡ q = omega arith in
+            let same : getD links (length old + 2 * q + 1) 0 ≡ p = k .index .owner p q (subst (Operand xs p) a o) (here .before) in
+            subst (Done xs old new′) (sym owner ∙ same) (lowered-done xs old new (here .limit) e)
 
-module _ (xs : List ℕ) where
-  pub at-first : At xs 0
-  at-first = record { start = first; low = omega arith }
+    pub walk-more : {new′ : List ℕ} {p q′ : ℕ} → new′ ≡ lowered old (limitAt xs p) new → p ≡ getD links (length old + 2 * q + 1) 0
+        → q′ ≡ getD links (length old + 2 * q) 0 → Walking xs s old new₀ q′ new′
+    walk-more e ep eq = rw eq (walk-next (rw (ep, owner) at e))
 
-  module _ {p : ℕ} (w : At xs p) (h : p + 4 ≤ length xs) where
-    pub at-whole : (n : ℕ) → Closed xs n → Whole xs n p
-    at-whole n c = c .whole p (w .start) h
+module _ (xs old new₀ new : List ℕ) (s q : ℕ) (w : Walking xs s old new₀ q new) where
+  pub walk-small : Small old → Small new
+  walk-small h = lowering-small (w .lowering) h
 
-    pub at-next : {k : ℕ} → k ≡ getD xs (p + 3) 0 → k < 4294967296 → At xs (p + 4 + k)
-    at-next e l = record { start = rw e (behind (w .start) h); low = omega arith }
+  pub walk-used : q ≡ 0 → Used xs old s new₀ new
+  walk-used e = record {
+    lowering = w .lowering;
+    since = w .since;
+    served = record { at = λ p r o z. w .served p r o z (omega (arith, o .from)) };
+  }
 
--- ---- the operands of a whole limit are among the sets
+-- ---- over the sets that changed: the limits of the first i have been put to use
 
-module _ (xs : List ℕ) (n p : ℕ) {e o : ℕ} (w : Whole xs n p) (is : e ≡ p + 4 + getD xs (p + 3) 0) where
-  pub operand-below : (q : ℕ) → p + 4 ≤ q → q < e → o ≡ getD xs q 0 → o < n
-  operand-below q h l r =
-      let at : p + 4 + (q - (p + 4)) ≡ q = omega arith in
-      rw r (subst (λ (i : ℕ). getD xs i 0 < n) at (w .operands (q - (p + 4)) (omega arith)))
+pub record Listing (xs sets old : List ℕ) (i : ℕ) (new : List ℕ) : Type 0 where
+  pub lowering : Lowering xs old new
+  pub served : (j : ℕ) → j < i → Served xs old new (getD sets j 0)
 
-  pub single-below : e ≡ p + 5 → o ≡ getD xs (p + 4) 0 → o < n
-  single-below h r = operand-below (p + 4) (omega arith) (omega arith) r
+module _ (xs links sets old : List ℕ) (d : Due xs links sets old) where
+  pub due-set : (i : ℕ) → i < length sets → getD sets i 0 < length old
+  due-set i h = rw (d .listed) (omega (arith, differing-below 0 (d .before) old i (rw (d .listed) at h)))
+
+  pub listing-all : (i : ℕ) (new : List ℕ) → Listing xs sets old i new → length sets ≤ i → new ≡ round (decode xs) old
+  listing-all i new w h = due-round d (w .lowering) (λ j l. w .served j (omega arith))
+
+module _ (xs sets old : List ℕ) where
+  pub listing-start : {new : List ℕ} → new ≡ old → Listing xs sets old 0 new
+  listing-start e = record { lowering = lowering-start e; served = λ j l. absurd (omega arith) }
+
+  module _ (i : ℕ) (new : List ℕ) (w : Listing xs sets old i new) where
+    pub listing-more : {new′ : List ℕ} → Used xs old (getD sets i 0) new new′ → Listing xs sets old (i + 1) new′
+    listing-more {new′} u = record { lowering = u .lowering; served = λ j l. go j l (ℕ-discrete j i) }
+      where
+        go : (j : ℕ) → j < i + 1 → Dec (j ≡ i) → Served xs old new′ (getD sets j 0)
+        go j l (yes e) = rw e (u .served)
+        go j l (no n) = served-since (u .since) (w .served j (omega arith))
+
+-- ---- the round and the sets that it changed
+
+pub round-taken : (x : List ℕ) {y z : List ℕ} → z ≡ y → y ≡ x → z ≡ x
+round-taken x e h = e ∙ h
+
+pub round-listed : (a b y : List ℕ) {x c : List ℕ} {r : ℕ} → x ≡ y → Wrote a 0 (differing 0 b x) c r → Wrote a 0 (differing 0 b y) c r
+round-listed a b y {c = c} {r = r} e w = subst (λ (z : List ℕ). Wrote a 0 (differing 0 b z) c r) e w
+
+pub round-long : (next sizes x : List ℕ) → next ≡ sizes → length x ≡ length next → length sizes ≡ length x
+round-long next sizes x e h = sym (h ∙ ap length e)
+
+pub front-count : (l : List ℕ) (m : ℕ) → m ≤ length l → m ≡ length (take m l)
+front-count l m h = sym (length-take-le m l h)

@@ -1,5 +1,6 @@
--- The laws of limits that depend on a set: the others hold after a round.
-pub mod Values
+-- The laws of limits found by their operands.
+pub mod Starts
 pub mod Differing
-pub mod Changed
-pub mod Room
+pub mod Building
+pub mod Values
+pub mod Lowering

@@ -1,3 +1,2 @@
 pub mod Dependents
-pub mod Passes
 pub mod Laws

@@ -1,103 +1,104 @@
 -- Loops that walk lists from the front: what is left from the index `i` on decides as the whole does.
 use mathlib.Core.Path.{_≡_, refl, sym, ap, _∙_}
-use mathlib.Core.Bool.{Bool, true, false, _||_, or-false, or-assoc}
+use mathlib.Core.Bool.{Bool, true, false, not}
 use mathlib.Core.Option.{Option, none, some}
-use mathlib.Core.List.{List, [], _∷_}
-use Prim.Native.Nat.{ℕ, suc, _+_, _≤_, _<_}
+use mathlib.Core.List.{List, [], _∷_, _++_}
+use Prim.Native.Nat.{ℕ, zero, suc, _+_, _≤_, _<_}
 use native.Mathlib.Numerals.{add-one}
-use lib.Dec.{ltb}
+use native.Mathlib.Decide.{decLe}
+use lib.Dec.{eqb, ltb}
 use native.Mathlib.Omega.{arith}
 use lib.ListN.{length, getD, drop, drop-of-length-le}
 use lib.Seq.{drop-cons}
-use borrow.Author.Tests.{lt-ltb, le-ltb, eq-eqb, ne-eqb}
-use Rattle.counting.specs.Lists.{same}
+use borrow.Author.Tests.{lt-ltb, le-ltb, ltb-false, eqb-true}
 use Rattle.fixpoint.specs.Limits.{firstBelow}
-use Rattle.rounds.specs.declared.Place.the-variants.{At, Nowhere}
-use Rattle.rounds.specs.Answer.{placeOf, orBelow, anyBelow}
+use Rattle.dependents.specs.Dependents.{Below, when, differing}
+use Rattle.rounds.specs.declared.Lowest.the-variants.{At, Nowhere}
+use Rattle.rounds.specs.Answer.{lowestOf, firstIn}
 
 module _ (f c : List ℕ) (i : ℕ) where
-  abbrev pub Below : Type 0
-  Below = firstBelow i (drop i f) (drop i c) ≡ firstBelow 0 f c
+  abbrev pub Ahead : Type 0
+  Ahead = firstBelow i (drop i f) (drop i c) ≡ firstBelow 0 f c
 
-  pub below-here : Below → i < length f → length f ≡ length c → getD c i 0 < getD f i 0 → At i ≡ placeOf (firstBelow 0 f c)
+  pub below-here : Ahead → i < length f → length f ≡ length c → getD c i 0 < getD f i 0 → At i ≡ lowestOf (firstBelow 0 f c)
   unfolding firstBelow
-  below-here w hf e h = let hc : i < length c = omega arith in ap placeOf (rw (drop-cons f i 0 hf, drop-cons c i 0 hc, lt-ltb (getD c i 0) (getD f i 0) h, firstBelow) at w)
+  below-here w hf e h = let hc : i < length c = omega arith in ap lowestOf (rw (drop-cons f i 0 hf, drop-cons c i 0 hc, lt-ltb (getD c i 0) (getD f i 0) h, firstBelow) at w)
 
-  pub below-end : Below → length f ≤ i → Nowhere ≡ placeOf (firstBelow 0 f c)
+  pub below-end : Ahead → length f ≤ i → Nowhere ≡ lowestOf (firstBelow 0 f c)
   unfolding firstBelow
-  below-end w h = ap placeOf (rw (drop-of-length-le f h) at w)
+  below-end w h = ap lowestOf (rw (drop-of-length-le f h) at w)
 
-pub below-more : (f c : List ℕ) (i : ℕ) → Below f c i → i < length f → length f ≡ length c → getD f i 0 ≤ getD c i 0 → Below f c (i + 1)
+pub below-more : (f c : List ℕ) (i : ℕ) → Ahead f c i → i < length f → length f ≡ length c → getD f i 0 ≤ getD c i 0 → Ahead f c (i + 1)
 unfolding firstBelow
 below-more f c i w hf e h = let hc : i < length c = omega arith in rw add-one (rw (drop-cons f i 0 hf, drop-cons c i 0 hc, le-ltb (getD c i 0) (getD f i 0) h, firstBelow) at w)
 
--- with no test in the way: one `found` so far, or one from `i` on
-pub record Finding (f c : List ℕ) (i : ℕ) (found : Bool) : Type 0 where
-  pub is : (found || anyBelow (drop i f) (drop i c)) ≡ anyBelow f c
+module _ (sets f c : List ℕ) (i : ℕ) where
+  abbrev pub Listed : Type 0
+  Listed = firstIn f c (drop i sets) ≡ firstIn f c sets
 
-module _ (f c : List ℕ) where
-  pub finding-start : Finding f c 0 false
-  finding-start = record { is = refl }
+  pub listed-here : Listed → i < length sets → getD c (getD sets i 0) 0 < getD f (getD sets i 0) 0
+      → At (getD sets i 0) ≡ lowestOf (firstIn f c sets)
+  unfolding firstIn
+  listed-here w h l = ap lowestOf (rw (drop-cons sets i 0 h, lt-ltb (getD c (getD sets i 0) 0) (getD f (getD sets i 0) 0) l, firstIn) at w)
 
-  module _ (i : ℕ) (found : Bool) (w : Finding f c i found) where
-    pub finding-end : length f ≤ i → found ≡ anyBelow f c
-    unfolding anyBelow
-    finding-end h = sym (or-false found) ∙ (rw (drop-of-length-le f h) at (w .is))
+  pub listed-end : Listed → length sets ≤ i → Nowhere ≡ lowestOf (firstIn f c sets)
+  unfolding firstIn
+  listed-end w h = ap lowestOf (rw (drop-of-length-le sets h) at w)
 
-    pub finding-more : {now : Bool} → i < length f → length f ≡ length c → now ≡ orBelow found (getD c i 0) (getD f i 0)
-        → Finding f c (i + 1) now
-    unfolding anyBelow orBelow
-    finding-more {now} hf e en =
-        let hc : i < length c = omega arith in
-        let rest : Bool = anyBelow (drop (suc i) f) (drop (suc i) c) in
-        record {
-          is = rw (add-one, en) (or-assoc found (ltb (getD c i 0) (getD f i 0)) rest
-              ∙ (rw (drop-cons f i 0 hf, drop-cons c i 0 hc) at (w .is)));
-        }
+pub listed-more : (sets f c : List ℕ) (i : ℕ) → Listed sets f c i → i < length sets → getD f (getD sets i 0) 0 ≤ getD c (getD sets i 0) 0
+    → Listed sets f c (i + 1)
+unfolding firstIn
+listed-more sets f c i w h l =
+    rw add-one (rw (drop-cons sets i 0 h, le-ltb (getD c (getD sets i 0) 0) (getD f (getD sets i 0) 0) l, firstIn) at w)
 
--- the test behind `found`
-pub found-is : (x y : ℕ) {found : Bool} → found ≡ true → true ≡ orBelow found x y
-unfolding orBelow
-found-is x y e = rw e
+pub below-at : (sets : List ℕ) (n i : ℕ) → Below sets n → i < length sets → getD sets i 0 < n
+below-at sets n i w h = w .at i h
 
-pub below-is : (x y : ℕ) {found : Bool} {b : Bool} → found ≡ false → b ≡ ltb x y → b ≡ orBelow found x y
-unfolding orBelow
-below-is x y e h = rw e h
+pub below-paired : (sets f c : List ℕ) (i : ℕ) → Below sets (length f) → length f ≡ length c → i < length sets → getD sets i 0 < length c
+below-paired sets f c i w e h = omega (arith, w .at i h)
 
-none-from : (i : ℕ) (f c : List ℕ) → anyBelow f c ≡ false → firstBelow i f c ≡ none
-unfolding anyBelow firstBelow
-none-from i [] c e = refl
-none-from i (x ∷ f) [] e = refl
-none-from i (x ∷ f) (y ∷ c) e = go (ltb y x) e (none-from (suc i) f c)
-  where
-    go : (b : Bool) → (b || anyBelow f c) ≡ false → (anyBelow f c ≡ false → firstBelow (suc i) f c ≡ none)
-        → _≡_ {A = Option ℕ} (elim b as (λ _. Option ℕ) [ true ↦ some i | false ↦ firstBelow (suc i) f c ]) none
-    go true q rec = let z : _≡_ {A = ℕ} 0 1 = cc in absurd (omega arith)
-    go false q rec = rec q
+-- ---- of sizes that were not below, only those that changed can be
 
-pub none-below : (f c : List ℕ) {b : Bool} → b ≡ anyBelow f c → b ≡ false → Nowhere ≡ placeOf (firstBelow 0 f c)
-none-below f c e q = ap placeOf (sym (none-from 0 f c (sym e ∙ q)))
+module _ (f c′ : List ℕ) where
+  one : (l x y : ℕ) (fs cs cs′ : List ℕ) (i : ℕ) → getD f i 0 ≡ l → getD c′ i 0 ≡ y
+      → (firstBelow (suc i) fs cs ≡ none → firstIn f c′ (differing (suc i) cs cs′) ≡ firstBelow (suc i) fs cs′)
+      → firstBelow i (l ∷ fs) (x ∷ cs) ≡ none → firstIn f c′ (differing i (x ∷ cs) (y ∷ cs′)) ≡ firstBelow i (l ∷ fs) (y ∷ cs′)
+  unfolding firstBelow firstIn differing
+  one l x y fs cs cs′ i el ey rec h = go (ltb x l) refl (eqb x y) refl h
+    where
+      go : (a : Bool) → ltb x l ≡ a → (b : Bool) → eqb x y ≡ b
+          → _≡_ {A = Option ℕ} (elim a as (λ _. Option ℕ) [ true ↦ some i | false ↦ firstBelow (suc i) fs cs ]) none
+          → firstIn f c′ (when (not b) i ++ differing (suc i) cs cs′) ≡ firstBelow i (l ∷ fs) (y ∷ cs′)
+      go true ea b eb h = let z : _≡_ {A = ℕ} 0 1 = cc in absurd (omega arith)
+      go false ea true eb h = rec h ∙ sym (rw (← eqb-true x y eb, ea, firstBelow))
+      go false ea false eb h = rw (el, ey, firstIn) (last (ltb y l))
+        where
+          last : (b : Bool) → _≡_ {A = Option ℕ} (elim b as (λ _. Option ℕ) [ true ↦ some i | false ↦ firstIn f c′ (differing (suc i) cs cs′) ])
+              (elim b as (λ _. Option ℕ) [ true ↦ some i | false ↦ firstBelow (suc i) fs cs′ ])
+          last true = refl
+          last false = rec h
 
-module _ (a b : List ℕ) (i : ℕ) where
-  abbrev pub Same : Type 0
-  Same = same (drop i a) (drop i b) ≡ same a b
+  module _ (c : List ℕ) (ef : length f ≡ length c) (ec : length c ≡ length c′) where
+    end : (i : ℕ) → length f ≤ i → firstIn f c′ (differing i (drop i c) (drop i c′)) ≡ firstBelow i (drop i f) (drop i c′)
+    unfolding firstBelow firstIn differing
+    end i l = let k : length c ≤ i = omega arith in rw (drop-of-length-le f l, drop-of-length-le c k)
 
-  pub same-not : Same → i < length a → i < length b → (getD a i 0 ≡ getD b i 0 → ⊥) → false ≡ same a b
-  unfolding same
-  same-not w ha hb h = rw (drop-cons a i 0 ha, drop-cons b i 0 hb, ne-eqb (getD a i 0) (getD b i 0) h) at w
+    from : (m i : ℕ) → length f ≤ i + m → firstBelow i (drop i f) (drop i c) ≡ none
+        → firstIn f c′ (differing i (drop i c) (drop i c′)) ≡ firstBelow i (drop i f) (drop i c′)
+    from zero i h n = end i (omega arith)
+    from (suc m) i h n = go (from m (suc i) (omega arith)) (decLe (length f) i)
+      where
+        go : (firstBelow (suc i) (drop (suc i) f) (drop (suc i) c) ≡ none
+            → firstIn f c′ (differing (suc i) (drop (suc i) c) (drop (suc i) c′)) ≡ firstBelow (suc i) (drop (suc i) f) (drop (suc i) c′))
+            → Dec (length f ≤ i) → firstIn f c′ (differing i (drop i c) (drop i c′)) ≡ firstBelow i (drop i f) (drop i c′)
+        go rec (yes l) = end i l
+        go rec (no l) =
+            let hf : i < length f = omega arith in
+            let hc : i < length c = omega arith in
+            let hd : i < length c′ = omega arith in
+            rw (drop-cons f i 0 hf, drop-cons c i 0 hc, drop-cons c′ i 0 hd)
+            (one (getD f i 0) (getD c i 0) (getD c′ i 0) (drop (suc i) f) (drop (suc i) c) (drop (suc i) c′) i refl refl rec
+            (rw (drop-cons f i 0 hf, drop-cons c i 0 hc) at n))
 
-  pub same-short : Same → i < length a → length b ≤ i → false ≡ same a b
-  unfolding same
-  same-short w ha h = rw (drop-cons a i 0 ha, drop-of-length-le b h) at w
-
-  pub same-long : Same → length a ≤ i → i < length b → false ≡ same a b
-  unfolding same
-  same-long w h hb = rw (drop-of-length-le a h, drop-cons b i 0 hb) at w
-
-  pub same-end : Same → length a ≤ i → length b ≤ i → true ≡ same a b
-  unfolding same
-  same-end w h k = rw (drop-of-length-le a h, drop-of-length-le b k) at w
-
-pub same-more : (a b : List ℕ) (i : ℕ) → Same a b i → i < length a → i < length b → getD a i 0 ≡ getD b i 0 → Same a b (i + 1)
-unfolding same
-same-more a b i w ha hb h = rw add-one (rw (drop-cons a i 0 ha, drop-cons b i 0 hb, eq-eqb (getD a i 0) (getD b i 0) h) at w)
+    pub changed-first : firstBelow 0 f c ≡ none → firstIn f c′ (differing 0 c c′) ≡ firstBelow 0 f c′
+    changed-first n = from (length f) 0 (omega arith) n

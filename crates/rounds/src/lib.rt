@@ -1,20 +1,28 @@
 // Rounds over limits of sizes: the upper bounds are lowered until one falls below its lower bound
 // or nothing changes. Limits stand in a slice of numbers, as specs/Encoding.antt of lowering says.
 ghost use mathlib.Core.Path.{_≡_};
-ghost use Prim.Native.Nat.{_<_};
+ghost use mathlib.Core.Option.{none};
+ghost use Prim.Native.Nat.{_-_, _≤_};
 ghost use lib.ListN.{length};
-ghost use Rattle.fixpoint.specs.Limits.{round, firstBelow, run};
-ghost use Rattle.counting.specs.Lists.{same};
+ghost use Rattle.fixpoint.specs.Limits.{upperAfter, firstBelow, run};
 ghost use Rattle.lowering.specs.Encoding.{decode};
-ghost use Rattle.lowering.specs.Sizes.{Small};
 ghost use Rattle.lowering.specs.Closed.{Closed};
-ghost use Rattle.rounds.specs.Answer.{placeOf, outcomeOf, upperOf, Bounds, Ready, Stepped, Started};
-ghost use Rattle.rounds.specs.Answer.{orBelow, anyBelow};
+ghost use Rattle.dependents.specs.Dependents.{Room, Below};
+ghost use Rattle.rounds.specs.Answer.{lowestOf, stepFrom, outcomeOf, roundsOf, endOf, firstIn, scratchAfter, listedAfter};
+ghost use Rattle.rounds.specs.Answer.{LinksAfter, Bounds, Scratch, Standing, Later, Continued, Advanced, Relinked, Ended};
 
-// A set, or none.
-enum Place {
+// The lowest set that is below its lower bound, or none.
+enum Lowest {
     At(usize),
     Nowhere,
+}
+
+// What a round comes to: an upper bound is below its lower bound, that of this set the lowest; nothing
+// was lowered; or so many sets were.
+pub enum Progress {
+    Emptied { set: usize },
+    Settled,
+    Going { lowered: usize },
 }
 
 // How a run ends.
@@ -23,291 +31,205 @@ pub enum Outcome {
     Fixpoint { rounds: u32 },
 }
 
-fn or_below(found: bool, x: u32, y: u32) -> bool
-    ensures { λ r. ⌜ r ≡ orBelow found x y ⌝ }
-{
-    if found { true } else { x < y }
-}
-
-// Whether an upper bound is below its lower bound; as no turn may end the loop, it is fast.
-fn any_below(lower: &[u32], upper: &[u32]) -> bool
+// The lowest set whose upper bound is below its lower bound.
+fn first_below(lower: &[u32], upper: &[u32]) -> Lowest
     requires { ⌜ length (now lower) ≡ length (now upper) ⌝ }
-    ensures { λ r. ⌜ r ≡ anyBelow (now (lower .entry)) (now (upper .entry)) ⌝ }
-{
-    let mut found = false;
-    let mut i = 0;
-    while i < lower.len() {
-        found = or_below(found, upper[i], lower[i]);
-        i += 1;
-    }
-    found
-}
-
-fn search_below(lower: &[u32], upper: &[u32]) -> Place
-    requires { ⌜ length (now lower) ≡ length (now upper) ⌝ }
-    ensures { λ r. ⌜ r ≡ placeOf (firstBelow 0 (now (lower .entry)) (now (upper .entry))) ⌝ }
+    ensures { λ r. ⌜ r ≡ lowestOf (firstBelow 0 (now (lower .entry)) (now (upper .entry))) ⌝ }
 {
     let mut i = 0;
     while i < lower.len() {
         if upper[i] < lower[i] {
-            return Place::At(i);
+            return Lowest::At(i);
         }
         i += 1;
     }
-    Place::Nowhere
+    Lowest::Nowhere
 }
 
-// The first set whose upper bound is below its lower bound. Of few sets it is searched for at once.
-fn first_below(lower: &[u32], upper: &[u32]) -> Place
+// The first of the listed sets whose upper bound is below its lower bound.
+fn first_listed(sets: &[usize], lower: &[u32], upper: &[u32]) -> Lowest
     requires { ⌜ length (now lower) ≡ length (now upper) ⌝ }
-    ensures { λ r. ⌜ r ≡ placeOf (firstBelow 0 (now (lower .entry)) (now (upper .entry))) ⌝ }
-{
-    if lower.len() < 32 {
-        return search_below(lower, upper);
-    }
-    if any_below(lower, upper) {
-        return search_below(lower, upper);
-    }
-    Place::Nowhere
-}
-
-fn same(a: &[u32], b: &[u32]) -> bool
-    ensures { λ r. ⌜ r ≡ same (now (a .entry)) (now (b .entry)) ⌝ }
+    requires { ⌜ Below (now sets) (length (now lower)) ⌝ }
+    ensures { λ r. ⌜ r ≡ lowestOf (firstIn (now (lower .entry)) (now (upper .entry)) (now (sets .entry))) ⌝ }
 {
     let mut i = 0;
-    while i < a.len() {
-        if b.len() <= i {
-            return false;
-        }
-        if a[i] != b[i] {
-            return false;
+    while i < sets.len() {
+        let s = sets[i];
+        if upper[s] < lower[s] {
+            return Lowest::At(s);
         }
         i += 1;
     }
-    if i < b.len() { false } else { true }
+    Lowest::Nowhere
 }
 
-// The rounds from the upper bounds `upper`, none of which is below its lower bound; `next` is what a
-// round makes of them. At a fixpoint `upper` holds it.
-fn rounds_from(
-    indexed: bool,
+fn conclude(found: Lowest, lowered: usize) -> Progress
+    ensures { λ r. ⌜ r ≡ stepFrom found lowered ⌝ }
+{
+    match found {
+        Lowest::At(set) => Progress::Emptied { set },
+        Lowest::Nowhere => {
+            if lowered == 0 {
+                Progress::Settled
+            } else {
+                Progress::Going { lowered }
+            }
+        }
+    }
+}
+
+// One round, by all limits, on upper bounds that stand somewhere; `next` becomes the same, and the
+// sets that were lowered stand at the front of `changed`.
+pub fn step(
     limits: &[u32],
     lower: &[u32],
-    starts: &[usize],
-    entries: &[usize],
-    changed: &mut [usize],
     upper: &mut [u32],
     next: &mut [u32],
+    changed: &mut [usize],
+) -> Progress
+    requires { ⌜ Standing (now limits) (now lower) (now upper) (now next) (now changed) ⌝ }
+    ensures { λ r.
+        ⌜ Advanced (now (limits .entry)) (now (lower .entry)) (now (upper .entry)) (now (changed .entry)) r (now (upper .exit))
+        (now (next .exit)) (now (changed .exit)) ⌝ }
+{
+    let lowered = dependents::whole_round(limits, upper, next, changed);
+    conclude(first_below(lower, upper), lowered)
+}
+
+// One round by the limits of the sets that the last round lowered, the first `count` of `changed`.
+fn step_changed(
+    limits: &[u32],
+    lower: &[u32],
+    links: &[u32],
+    count: usize,
+    upper: &mut [u32],
+    next: &mut [u32],
+    changed: &mut [usize],
+) -> Progress
+    requires { ⌜ Standing (now limits) (now lower) (now upper) (now next) (now changed) ⌝ }
+    requires { ⌜ Later (now limits) (now lower) (now links) (now changed) count (now upper) (now next) ⌝ }
+    ensures { λ r.
+        ⌜ Advanced (now (limits .entry)) (now (lower .entry)) (now (upper .entry)) (now (changed .entry)) r (now (upper .exit))
+        (now (next .exit)) (now (changed .exit)) ⌝ }
+{
+    let lowered = dependents::next_round(limits, links, count, upper, next, changed);
+    conclude(first_listed(&changed[..lowered], lower, upper), lowered)
+}
+
+// Round n: the first by all limits, a later one by those of the sets that the last one lowered.
+fn turn(
+    n: u32,
+    limits: &[u32],
+    lower: &[u32],
+    links: &[u32],
+    count: usize,
+    upper: &mut [u32],
+    next: &mut [u32],
+    changed: &mut [usize],
+) -> Progress
+    requires { ⌜ Standing (now limits) (now lower) (now upper) (now next) (now changed) ⌝ }
+    requires { ⌜ Continued n (now limits) (now lower) (now links) (now changed) count (now upper) (now next) ⌝ }
+    ensures { λ r.
+        ⌜ Advanced (now (limits .entry)) (now (lower .entry)) (now (upper .entry)) (now (changed .entry)) r (now (upper .exit))
+        (now (next .exit)) (now (changed .exit)) ⌝ }
+{
+    if n == 1 {
+        step(limits, lower, upper, next, changed)
+    } else {
+        step_changed(limits, lower, links, count, upper, next, changed)
+    }
+}
+
+fn ended(end: Lowest, n: u32) -> Outcome
+    ensures { λ r. ⌜ r ≡ endOf end n ⌝ }
+{
+    match end {
+        Lowest::At(set) => Outcome::Unsatisfiable { set, round: n },
+        Lowest::Nowhere => Outcome::Fixpoint { rounds: n },
+    }
+}
+
+// Links the operands behind the first round: rounds that end there need no links.
+fn relink(n: u32, limits: &[u32], sets: usize, links: &mut [u32])
+    requires { ⌜ Closed (now limits) sets ⌝ }
+    requires { ⌜ Room (now limits) sets (now links) ⌝ }
+    ensures { λ _. ⌜ Relinked n (now (limits .entry)) sets (now (links .entry)) (now (links .exit)) ⌝ }
+{
+    if n == 1 {
+        dependents::link_operands(limits, sets, links);
+    }
+}
+
+// The rounds from the upper bounds `upper`, none of which is below its lower bound.
+fn rounds_from(
+    limits: &[u32],
+    lower: &[u32],
+    upper: &mut [u32],
+    next: &mut [u32],
+    changed: &mut [usize],
+    links: &mut [u32],
 ) -> Outcome
-    requires { ⌜ Started indexed (now limits) (now lower) (now starts) (now entries) (now upper) (now next) ⌝ }
-    requires { ⌜ length (now next) ≡ length (now upper) ⌝ }
-    requires { ⌜ length (now upper) < length (now changed) ⌝ }
-    ensures { λ r. ⌜ r ≡ outcomeOf (run (decode (now (limits .entry))) (now (lower .entry)) (now (upper .entry))) ⌝ }
-    ensures { λ _.
-        ⌜ now (upper .exit)
-        ≡ upperOf (run (decode (now (limits .entry))) (now (lower .entry)) (now (upper .entry))) (now (upper .exit)) ⌝ }
+    requires { ⌜ Bounds (now limits) (now lower) (now upper) ⌝ }
+    requires { ⌜ Scratch (now limits) (now upper) (now next) (now changed) (now links) ⌝ }
+    requires { ⌜ firstBelow 0 (now lower) (now upper) ≡ none ⌝ }
+    ensures { λ r.
+        ⌜ Ended (now (limits .entry)) (now (lower .entry)) (now (upper .entry)) (now (changed .entry)) (now (links .entry)) r
+        (now (upper .exit)) (now (next .exit)) (now (changed .exit)) (now (links .exit)) ⌝ }
 {
     let mut n: u32 = 0;
+    let mut count = 0;
+    let mut end = Lowest::Nowhere;
     let rounds = loop {
         n += 1;
-        if let Place::At(set) = first_below(lower, next) {
-            return Outcome::Unsatisfiable { set, round: n };
-        }
-        if dependents::next_round(indexed, limits, starts, entries, changed, upper, next) {
-            break n;
+        let made = turn(n, limits, lower, links, count, upper, next, changed);
+        match made {
+            Progress::Emptied { set } => {
+                end = Lowest::At(set);
+                break n;
+            }
+            Progress::Settled => {
+                break n;
+            }
+            Progress::Going { lowered } => {
+                relink(n, limits, upper.len(), links);
+                count = lowered;
+            }
         }
     };
-    Outcome::Fixpoint { rounds }
+    ended(end, rounds)
 }
 
-// The same, with scratch for an index.
-fn rounds_in(
+// The rounds from the upper bounds `upper`; `next`, `changed` and `links` are scratch.
+pub fn settle(
     limits: &[u32],
     lower: &[u32],
-    starts: &mut [usize],
-    entries: &mut [usize],
-    changed: &mut [usize],
     upper: &mut [u32],
     next: &mut [u32],
+    changed: &mut [usize],
+    links: &mut [u32],
 ) -> Outcome
-    requires { ⌜ Stepped (now limits) (now lower) (now upper) (now next) ⌝ }
-    requires { ⌜ length (now upper) < length (now starts) ⌝ }
-    requires { ⌜ length (now upper) < length (now changed) ⌝ }
-    ensures { λ r. ⌜ r ≡ outcomeOf (run (decode (now (limits .entry))) (now (lower .entry)) (now (upper .entry))) ⌝ }
-    ensures { λ _.
-        ⌜ now (upper .exit)
-        ≡ upperOf (run (decode (now (limits .entry))) (now (lower .entry)) (now (upper .entry))) (now (upper .exit)) ⌝ }
-{
-    let indexed = dependents::index_sets(limits, upper.len(), starts, entries);
-    rounds_from(
-        indexed,
-        limits,
-        lower,
-        starts,
-        entries,
-        changed,
-        upper,
-        next,
-    )
-}
-
-// A call's result is a name in what is to be proved; an array written in place is 208 numbers.
-fn sizes() -> [u32; 208] {
-    [0u32; 208]
-}
-
-fn places() -> [usize; 209] {
-    [0usize; 209]
-}
-
-fn indices() -> [usize; 6753] {
-    [0usize; 6753]
-}
-
-fn few_sizes() -> [u32; 32] {
-    [0u32; 32]
-}
-
-fn few_places() -> [usize; 32] {
-    [0usize; 32]
-}
-
-fn rounds_large(limits: &[u32], lower: &[u32], upper: &mut [u32], next: &mut [u32]) -> Outcome
-    requires { ⌜ Stepped (now limits) (now lower) (now upper) (now next) ⌝ }
-    ensures { λ r. ⌜ r ≡ outcomeOf (run (decode (now (limits .entry))) (now (lower .entry)) (now (upper .entry))) ⌝ }
-    ensures { λ _.
-        ⌜ now (upper .exit)
-        ≡ upperOf (run (decode (now (limits .entry))) (now (lower .entry)) (now (upper .entry))) (now (upper .exit)) ⌝ }
-{
-    let mut starts = places();
-    let mut entries = indices();
-    let mut changed = places();
-    rounds_in(
-        limits,
-        lower,
-        &mut starts,
-        &mut entries,
-        &mut changed,
-        upper,
-        next,
-    )
-}
-
-// With little scratch: clearing much costs more than a small diagram's rounds.
-fn rounds_small(limits: &[u32], lower: &[u32], upper: &mut [u32], next: &mut [u32]) -> Outcome
-    requires { ⌜ Stepped (now limits) (now lower) (now upper) (now next) ⌝ }
-    requires { ⌜ length (now upper) < 32 ⌝ }
-    ensures { λ r. ⌜ r ≡ outcomeOf (run (decode (now (limits .entry))) (now (lower .entry)) (now (upper .entry))) ⌝ }
-    ensures { λ _.
-        ⌜ now (upper .exit)
-        ≡ upperOf (run (decode (now (limits .entry))) (now (lower .entry)) (now (upper .entry))) (now (upper .exit)) ⌝ }
-{
-    let mut starts = few_places();
-    let mut entries = few_places();
-    let mut changed = few_places();
-    rounds_in(
-        limits,
-        lower,
-        &mut starts,
-        &mut entries,
-        &mut changed,
-        upper,
-        next,
-    )
-}
-
-// The first round; true: it changes nothing. An index is made only where it does.
-fn first_round(limits: &[u32], upper: &[u32], next: &mut [u32]) -> bool
-    requires { ⌜ length (now upper) ≡ length (now next) ⌝ }
-    requires { ⌜ Small (now upper) ⌝ }
-    requires { ⌜ Closed (now limits) (length (now upper)) ⌝ }
-    ensures { λ r. ⌜ r ≡ same (round (decode (now (limits .entry))) (now (upper .entry))) (now (upper .entry)) ⌝ }
-    ensures { λ _. ⌜ now (next .exit) ≡ round (decode (now (limits .entry))) (now (upper .entry)) ⌝ }
-{
-    lowering::round(limits, upper, next);
-    same(next, upper)
-}
-
-fn start_large(limits: &[u32], lower: &[u32], upper: &mut [u32], next: &mut [u32]) -> Outcome
-    requires { ⌜ Ready (now limits) (now lower) (now upper) ⌝ }
-    requires { ⌜ length (now upper) ≡ length (now next) ⌝ }
-    ensures { λ r. ⌜ r ≡ outcomeOf (run (decode (now (limits .entry))) (now (lower .entry)) (now (upper .entry))) ⌝ }
-    ensures { λ _.
-        ⌜ now (upper .exit)
-        ≡ upperOf (run (decode (now (limits .entry))) (now (lower .entry)) (now (upper .entry))) (now (upper .exit)) ⌝ }
-{
-    if first_round(limits, upper, next) {
-        return Outcome::Fixpoint { rounds: 1 };
-    }
-    rounds_large(limits, lower, upper, next)
-}
-
-fn start_small(limits: &[u32], lower: &[u32], upper: &mut [u32], next: &mut [u32]) -> Outcome
-    requires { ⌜ Ready (now limits) (now lower) (now upper) ⌝ }
-    requires { ⌜ length (now upper) ≡ length (now next) ⌝ }
-    requires { ⌜ length (now upper) < 32 ⌝ }
-    ensures { λ r. ⌜ r ≡ outcomeOf (run (decode (now (limits .entry))) (now (lower .entry)) (now (upper .entry))) ⌝ }
-    ensures { λ _.
-        ⌜ now (upper .exit)
-        ≡ upperOf (run (decode (now (limits .entry))) (now (lower .entry)) (now (upper .entry))) (now (upper .exit)) ⌝ }
-{
-    if first_round(limits, upper, next) {
-        return Outcome::Fixpoint { rounds: 1 };
-    }
-    rounds_small(limits, lower, upper, next)
-}
-
-fn settle_large(limits: &[u32], lower: &[u32], upper: &mut [u32]) -> Outcome
-    requires { ⌜ Ready (now limits) (now lower) (now upper) ⌝ }
-    ensures { λ r. ⌜ r ≡ outcomeOf (run (decode (now (limits .entry))) (now (lower .entry)) (now (upper .entry))) ⌝ }
-    ensures { λ _.
-        ⌜ now (upper .exit)
-        ≡ upperOf (run (decode (now (limits .entry))) (now (lower .entry)) (now (upper .entry))) (now (upper .exit)) ⌝ }
-{
-    let n = upper.len();
-    let mut next = sizes();
-    start_large(limits, lower, upper, &mut next[..n])
-}
-
-fn settle_small(limits: &[u32], lower: &[u32], upper: &mut [u32]) -> Outcome
-    requires { ⌜ Ready (now limits) (now lower) (now upper) ⌝ }
-    requires { ⌜ length (now upper) < 32 ⌝ }
-    ensures { λ r. ⌜ r ≡ outcomeOf (run (decode (now (limits .entry))) (now (lower .entry)) (now (upper .entry))) ⌝ }
-    ensures { λ _.
-        ⌜ now (upper .exit)
-        ≡ upperOf (run (decode (now (limits .entry))) (now (lower .entry)) (now (upper .entry))) (now (upper .exit)) ⌝ }
-{
-    let n = upper.len();
-    let mut next = few_sizes();
-    start_small(limits, lower, upper, &mut next[..n])
-}
-
-// The rounds from the upper bounds `upper`, where the bounds are known to be taken. At a fixpoint
-// `upper` holds it; where there is none it may have been lowered.
-pub fn settle_over(limits: &[u32], lower: &[u32], upper: &mut [u32]) -> Outcome
     requires { ⌜ Bounds (now limits) (now lower) (now upper) ⌝ }
+    requires { ⌜ Scratch (now limits) (now upper) (now next) (now changed) (now links) ⌝ }
     ensures { λ r. ⌜ r ≡ outcomeOf (run (decode (now (limits .entry))) (now (lower .entry)) (now (upper .entry))) ⌝ }
     ensures { λ _.
         ⌜ now (upper .exit)
-        ≡ upperOf (run (decode (now (limits .entry))) (now (lower .entry)) (now (upper .entry))) (now (upper .exit)) ⌝ }
+        ≡ upperAfter (decode (now (limits .entry))) (now (upper .entry))
+        (roundsOf (run (decode (now (limits .entry))) (now (lower .entry)) (now (upper .entry)))) ⌝ }
+    ensures { λ _.
+        ⌜ now (next .exit)
+        ≡ scratchAfter (roundsOf (run (decode (now (limits .entry))) (now (lower .entry)) (now (upper .entry)))) (now (next .entry))
+        (now (upper .exit)) ⌝ }
+    ensures { λ _.
+        ⌜ now (changed .exit)
+        ≡ listedAfter (decode (now (limits .entry))) (now (upper .entry)) (now (changed .entry))
+        (roundsOf (run (decode (now (limits .entry))) (now (lower .entry)) (now (upper .entry)))) ⌝ }
+    ensures { λ _.
+        ⌜ LinksAfter (roundsOf (run (decode (now (limits .entry))) (now (lower .entry)) (now (upper .entry))) - 1) (now (limits .entry))
+        (length (now (upper .entry))) (now (links .entry)) (now (links .exit)) ⌝ }
 {
-    if let Place::At(set) = first_below(lower, upper) {
+    let found = first_below(lower, upper);
+    if let Lowest::At(set) = found {
         return Outcome::Unsatisfiable { set, round: 0 };
     }
-    settle_large(limits, lower, upper)
-}
-
-// The same of few sets, with little scratch. Where their index has no room every round is a full one, as few limits are.
-pub fn settle_few(limits: &[u32], lower: &[u32], upper: &mut [u32]) -> Outcome
-    requires { ⌜ Bounds (now limits) (now lower) (now upper) ⌝ }
-    requires { ⌜ length (now upper) < 32 ⌝ }
-    ensures { λ r. ⌜ r ≡ outcomeOf (run (decode (now (limits .entry))) (now (lower .entry)) (now (upper .entry))) ⌝ }
-    ensures { λ _.
-        ⌜ now (upper .exit)
-        ≡ upperOf (run (decode (now (limits .entry))) (now (lower .entry)) (now (upper .entry))) (now (upper .exit)) ⌝ }
-{
-    if let Place::At(set) = first_below(lower, upper) {
-        return Outcome::Unsatisfiable { set, round: 0 };
-    }
-    settle_small(limits, lower, upper)
+    rounds_from(limits, lower, upper, next, changed, links)
 }

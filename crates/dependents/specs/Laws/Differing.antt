@@ -1,5 +1,6 @@
 -- The sets at which two lists of sizes differ: none is past their ends, and there are none where the lists are the same.
 use Prim.Native.Nat.{ℕ, zero, suc, _+_, _≤_, _<_}
+use native.Mathlib.Nat.{suc-inj}
 use native.Mathlib.Omega.{arith}
 use mathlib.Core.Path.{_≡_, refl, sym, ap, _∙_}
 use mathlib.Core.Bool.{Bool, true, false, not, _&&_}
@@ -47,3 +48,29 @@ none-differ i (x ∷ c) (y ∷ c′) e = go (eqb x y) refl (none-differ (suc i) 
       where
         apart : x ≡ y → eqb x y ≡ false → ⊥
         apart p r = let t : _≡_ {A = Bool} true false = sym (eq-eqb x y p) ∙ r in let z : _≡_ {A = ℕ} 0 1 = cc in absurd (omega arith)
+
+-- A set at which the lists differ is listed
+pub record Listed (c c′ : List ℕ) (s : ℕ) : Type 0 where
+  pub place : ℕ
+  pub within : place < length (differing 0 c c′)
+  pub is : getD (differing 0 c c′) place 0 ≡ s
+
+place-in : (i s : ℕ) (c c′ : List ℕ) → length c ≡ length c′ → (getD c s 0 ≡ getD c′ s 0 → ⊥)
+    → (k : ℕ) × (k < length (differing i c c′)) × (getD (differing i c c′) k 0 ≡ i + s)
+unfolding differing
+place-in i s [] [] e n = absurd (n refl)
+place-in i s [] (y ∷ c′) e n = absurd (omega arith)
+place-in i s (x ∷ c) [] e n = absurd (omega arith)
+place-in i zero (x ∷ c) (y ∷ c′) e n = rw (ne-eqb x y n) (0, omega arith, omega arith)
+place-in i (suc s) (x ∷ c) (y ∷ c′) e n = go (not (eqb x y)) (place-in (suc i) s c c′ (suc-inj e) n)
+  where
+    go : (b : Bool) → (k : ℕ) × (k < length (differing (suc i) c c′)) × (getD (differing (suc i) c c′) k 0 ≡ suc i + s)
+        → (k : ℕ) × (k < length (when b i ++ differing (suc i) c c′)) × (getD (when b i ++ differing (suc i) c c′) k 0 ≡ i + suc s)
+    go true (k, h, z) = (suc k, omega arith, omega arith)
+    go false (k, h, z) = (k, h, omega arith)
+
+pub differing-lists : (c c′ : List ℕ) → length c′ ≡ length c → (s : ℕ) → (getD c s 0 ≡ getD c′ s 0 → ⊥) → Listed c c′ s
+differing-lists c c′ e s n = go (place-in 0 s c c′ (sym e) n)
+  where
+    go : (k : ℕ) × (k < length (differing 0 c c′)) × (getD (differing 0 c c′) k 0 ≡ 0 + s) → Listed c c′ s
+    go (k, h, z) = record { place = k; within = h; is = omega arith }

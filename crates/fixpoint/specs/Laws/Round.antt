@@ -22,10 +22,10 @@ getD-set-min (x ∷ xs) (suc t) v = getD-set-min xs t v
 
 module _ (old : List ℕ) where
   -- For entry `s`, the limit `l` allows `v`
-  abbrev Allows : ℕ → ℕ → Limit → Type 0
+  abbrev pub Allows : ℕ → ℕ → Limit → Type 0
   Allows s v l = l .target ≡ s → v ≤ valueOf old (l .most)
 
-  le-lowered : (l : Limit) (new : List ℕ) (s v : ℕ) → (v ≤ getD (lowered old l new) s 0) ↔ ((v ≤ getD new s 0) × Allows s v l)
+  pub le-lowered : (l : Limit) (new : List ℕ) (s v : ℕ) → (v ≤ getD (lowered old l new) s 0) ↔ ((v ≤ getD new s 0) × Allows s v l)
   unfolding lowered
   le-lowered l new s v = split (ℕ-discrete (l .target) s)
     where

@@ -1,36 +1,37 @@
 -- The check of a table: what the reader says of it, and what a valid one leads to.
-use Prim.Native.Nat.{ℕ, suc, _+_, _≤_, _<_}
+use Prim.Native.Nat.{ℕ, _≤_}
 use native.Mathlib.Omega.{arith}
 use mathlib.Core.Path.{_≡_, refl, sym, ap, _∙_}
 use mathlib.Core.List.{List}
-use lib.ListN.{length, take, length-map}
+use lib.ListN.{length, take}
 use lib.Seq.{length-take-le}
-use Rattle.orm.specs.Diagram.{Role, Diagram, Totals, totals, allRoles, allGroups}
+use Rattle.orm.specs.Diagram.{Diagram, Totals, totals, allRoles, allGroups, table}
 use Rattle.orm.specs.Text.{tableLine}
-use Rattle.orm.specs.Sets.{firstPred, firstRole, lower, upper, limits, verdict, verdictFrom}
-use Rattle.orm.specs.Outcome.{Outcome, refused, accepted, _>>=_, fitted, bufferAfter, Sized, written, handedBack}
-use Rattle.orm.specs.Calls.{diagramIn, sizesBy, settledInto, checkCall}
-use Rattle.fixpoint.specs.Limits.{Verdict, unsatisfiable, fixpoint, run}
+use Rattle.orm.specs.Sets.{lower, upper, limits, verdict, verdictFrom}
+use Rattle.orm.specs.Outcome.{Outcome, refused, accepted, _>>=_, bufferAfter, Sized, written, handedBack}
+use Rattle.orm.specs.Calls.{diagramIn, settledInto, checkCall}
+use Rattle.fixpoint.specs.Limits.{run}
 use Rattle.grammar.specs.Fault.{numberOf}
 use Rattle.reader.specs.Answer.{formOf, totalled}
 use Rattle.grammar.specs.declared.Fault.{Fault}
 use Rattle.reader.specs.declared.FormAnswer.{FormAnswer}
 use Rattle.reader.specs.declared.FormAnswer.the-variants as forms
-use Rattle.rounds.specs.Answer.{Bounds}
+use Rattle.rounds.specs.Answer.{Bounds, Scratch}
 use Rattle.lowering.specs.Encoding.{encode, decode}
-use Rattle.buffer.specs.Written.{Wrote}
-use Rattle.buffer.specs.Laws.{wrote-front, wrote-within, wrote-long, wrote-fit}
+use Rattle.lowering.specs.Laws.Decoding.{decode-encode}
+use Rattle.buffer.specs.Laws.{wrote-end, wrote-front, wrote-within}
 use Rattle.table.specs.Positions.{diagramOf}
 use Rattle.table.specs.Valid.{Valid}
-use Rattle.table.specs.Laws.Valid.{accepted-valid, valid-walkable}
-use Rattle.lowering.specs.Laws.Decoding.{decode-encode}
-use Rattle.selection.specs.Selected.{typesOf, Types}
+use Rattle.table.specs.Laws.Valid.{accepted-valid, valid-walkable, sets-few}
 use Rattle.orm.specs.Laws.Bounds.{length-lower, bounds-paired, lower-few}
-use Rattle.limits.specs.Laws.Room.{limits-fit}
+use Rattle.reading.specs.Laws.{table-accepted-iff}
+use Rattle.limits.specs.Prepared.{ValidTotals, Roomy, Prepared}
+use Rattle.limits.specs.declared.Extent.{Extent}
+use Rattle.limits.specs.Laws.Room.{limits-fit, few-limits-fit}
 use Rattle.limits.specs.Laws.Start.{start-bounds}
-use Rattle.bounds.specs.Answer.{checkOf, ended, Answered, Known, Limits, Lowers, FewLowers, Few}
-use Rattle.bounds.specs.declared.CheckAnswer.{CheckAnswer}
-use Rattle.bounds.specs.declared.CheckAnswer.the-variants.{Refused}
+use Rattle.bounds.specs.Answer.{settlementOf, Answered, unchanged, Space}
+use Rattle.bounds.specs.declared.Settlement.{Settlement}
+use Rattle.bounds.specs.declared.Settlement.the-variants.{Refused}
 
 -- ---- what the reader says
 
@@ -46,9 +47,9 @@ module _ (t b : List ℕ) {r : FormAnswer} {f : Fault} {line : ℕ} (p : r ≡ f
     (e : formOf r ≡ totalled (diagramIn tableLine t)) where
   call-refused : checkCall t (length b) ≡ refused (numberOf f) line 0
   unfolding checkCall
-  call-refused = ap (λ (o : Outcome Diagram). o >>= λ d. settledInto 7 (λ c. c) (verdict d) (length b)) (refused-is (diagramIn tableLine t) p e)
+  call-refused = ap (λ (o : Outcome Diagram). o >>= λ d. settledInto 7 unchanged (verdict d) (length b)) (refused-is (diagramIn tableLine t) p e)
 
-  pub table-refused : checkOf (Refused f line) ≡ handedBack (checkCall t (length b))
+  pub table-refused : settlementOf (Refused f line) ≡ handedBack (checkCall t (length b))
   table-refused = ap handedBack (sym call-refused)
 
   pub table-kept : b ≡ bufferAfter (written (checkCall t (length b))) b
@@ -85,13 +86,11 @@ module _ (t : List ℕ) {r : FormAnswer} {a b c d : ℕ} (p : r ≡ forms.Accept
   pub groups-narrow : d ≤ 96
   groups-narrow = omega (arith, table-groups, table-known .0 .formed .groupCount)
 
-  pub table-counted : {roles groups : ℕ} → roles ≡ c → groups ≡ d → Known t roles groups
+  pub table-counted : {roles groups : ℕ} → roles ≡ c → groups ≡ d → ValidTotals t roles groups
   table-counted er eg = record {
     valid = table-known .0;
     walkable = valid-walkable (table-known .0);
     counted = record { roles-are = er ∙ table-roles; groups-are = eg ∙ table-groups };
-    few-roles = omega (arith, er, roles-narrow);
-    few-groups = omega (arith, eg, groups-narrow);
   }
 
 -- ---- a valid table
@@ -99,135 +98,111 @@ module _ (t : List ℕ) {r : FormAnswer} {a b c d : ℕ} (p : r ≡ forms.Accept
 pub front-count : (l : List ℕ) (m : ℕ) → m ≤ length l → m ≡ length (take m l)
 front-count l m h = sym (length-take-le m l h)
 
--- the steps behind the verdict
-settled-is : (v : Verdict) (space : ℕ) → settledInto 7 (λ c. c) v space ≡ ended v space
-unfolding settledInto sizesBy ended
-settled-is (unsatisfiable s n) space = refl
-settled-is (fixpoint n c) space = refl
+-- the scratch of a table, `next` first for the types of its roles
+module _ {t ls low up next changed links : List ℕ} (space : Space t ls low up next changed links) where
+  pub space-roomy : Roomy t next ls low up
+  space-roomy = record {
+    types-room = omega (arith, space .next-room, length-lower (diagramOf t));
+    limits-room = space .limits-room;
+    lower-room = space .lower-room;
+    upper-room = space .upper-room;
+  }
 
-module _ {t : List ℕ} {roles groups : ℕ} (known : Known t roles groups) where
-  v : Valid t
-  v = known .valid
+  module _ {r : Extent} {next′ ls′ low′ up′ : List ℕ} (p : Prepared t next ls low up r next′ ls′ low′ up′) where
+    upper-fits : length (upper (diagramOf t)) ≤ length up
+    upper-fits = omega (arith, bounds-paired (diagramOf t), space .upper-room)
 
-  check-is : (space : ℕ) → checkCall t space ≡ ended (verdict (diagramOf t)) space
-  unfolding checkCall
-  check-is space =
-      ap (λ (o : Outcome Diagram). o >>= λ d. settledInto 7 (λ c. c) (verdict d) space) (v .reads) ∙ settled-is (verdict (diagramOf t)) space
+    sets : r .sets ≡ length (lower (diagramOf t))
+    sets = wrote-end (p .lower-are) (space .lower-room)
 
-  -- the limits, where there was room for them
-  pub limits-fill : {l l′ : List ℕ} {m : ℕ} → length l ≡ 6752 → Wrote l 0 (encode (limits (diagramOf t))) l′ m → m ≤ length l′
-  limits-fill h w = wrote-within w (omega (arith, limits-fit (diagramOf t) (v .formed)))
+    pub limits-within : r .limits ≤ length ls′
+    limits-within = wrote-within (p .limits-are) (space .limits-room)
 
-  pub limits-whole : {l l′ : List ℕ} {m : ℕ} → length l ≡ 6752 → Wrote l 0 (encode (limits (diagramOf t))) l′ m → Limits t (take m l′)
-  limits-whole h w = record { are = wrote-front w (omega (arith, limits-fit (diagramOf t) (v .formed))) }
+    pub lower-within : r .sets ≤ length low′
+    lower-within = wrote-within (p .lower-are) (space .lower-room)
 
-  -- the types of all roles
-  roles-few : length (typesOf (allRoles (diagramOf t))) ≤ 96
-  roles-few = omega (arith, length-map (allRoles (diagramOf t)) (λ (r : Role). r .type), v .formed .roleCount)
+    pub upper-within : r .sets ≤ length up′
+    upper-within = wrote-within (p .upper-are) upper-fits
 
-  pub types-within : {a a′ : List ℕ} {n : ℕ} → length a ≡ 96 → Wrote a 0 (typesOf (allRoles (diagramOf t))) a′ n → n ≤ length a′
-  types-within h w = wrote-within w (omega (arith, roles-few))
+    pub next-within : length next′ ≡ length next → r .sets ≤ length next′
+    next-within e = omega (arith, sets, space .next-room)
 
-  pub types-whole : {a a′ : List ℕ} {n : ℕ} → length a ≡ 96 → Wrote a 0 (typesOf (allRoles (diagramOf t))) a′ n → Types t (take n a′)
-  types-whole {a} {a′} {n} h w =
-      let e : take n a′ ≡ typesOf (allRoles (diagramOf t)) = wrote-front w (omega (arith, roles-few)) in
-      record { are = e; few = rw e roles-few }
+    limits-front : take (r .limits) ls′ ≡ encode (limits (diagramOf t))
+    limits-front = wrote-front (p .limits-are) (space .limits-room)
 
-  -- the lower bounds, where there was room for those of every diagram
-  pub lower-within : {a a′ : List ℕ} {n : ℕ} → length a ≡ 208 → Wrote a 0 (lower (diagramOf t)) a′ n → n ≤ length a′
-  lower-within h w = wrote-within w (omega (arith, lower-few (diagramOf t) (v .formed)))
+    lower-front : take (r .sets) low′ ≡ lower (diagramOf t)
+    lower-front = wrote-front (p .lower-are) (space .lower-room)
 
-  pub lower-whole : {a a′ b : List ℕ} {n : ℕ} → length a ≡ 208 → length b ≡ 208 → Wrote a 0 (lower (diagramOf t)) a′ n
-      → Lowers t (take n a′) b
-  lower-whole {a} {a′} {b} {n} h k w =
-      let e : take n a′ ≡ lower (diagramOf t) = wrote-front w (omega (arith, lower-few (diagramOf t) (v .formed))) in
-      record { are = e; room = rw e (omega (arith, lower-few (diagramOf t) (v .formed))) }
+    upper-front : take (r .sets) up′ ≡ upper (diagramOf t)
+    upper-front = wrote-front (p .upper-are) upper-fits
 
-  -- what was written into the scratch `b` for upper bounds
-  module _ {l b : List ℕ} (low : Lowers t l b) where
-    upper-room : length (upper (diagramOf t)) ≤ length b
-    upper-room = let e : length l ≡ length (lower (diagramOf t)) = ap length (low .are) in
-        omega (arith, bounds-paired (diagramOf t), low .room)
+    module _ {roles groups : ℕ} (known : ValidTotals t roles groups) where
+      v : Valid t
+      v = known .valid
 
-    module _ {b′ : List ℕ} {k : ℕ} (w : Wrote b 0 (upper (diagramOf t)) b′ k) where
-      pub upper-within : k ≤ length b′
-      upper-within = wrote-within w upper-room
+      pub check-bounds : Bounds (take (r .limits) ls′) (take (r .sets) low′) (take (r .sets) up′)
+      check-bounds = rw (limits-front, lower-front, upper-front) (start-bounds (diagramOf t) (v .formed))
 
-      pub check-bounds : {ls : List ℕ} → Limits t ls → Bounds ls l (take k b′)
-      check-bounds e = rw (e .are, low .are, wrote-front w upper-room) (start-bounds (diagramOf t) (v .formed))
+      pub check-scratch : length next′ ≡ length next
+          → Scratch (take (r .limits) ls′) (take (r .sets) up′) (take (r .sets) next′) changed links
+      check-scratch e =
+          let eu : length (take (r .sets) up′) ≡ r .sets = length-take-le (r .sets) up′ upper-within in
+          let en : length (take (r .sets) next′) ≡ r .sets = length-take-le (r .sets) next′ (next-within e) in
+          let el : length (take (r .limits) ls′) ≡ length (encode (limits (diagramOf t))) = ap length limits-front in
+          record {
+            next-room = eu ∙ sym en;
+            changed-room = omega (arith, sets, space .changed-room);
+            room = record {
+              places = omega (arith, sets, space .links-room);
+              narrow = omega (arith, sets, lower-few (diagramOf t) (v .formed), limits-fit (diagramOf t) (v .formed));
+            };
+          }
 
-      pub few-upper : FewLowers t l → length (take k b′) < 32
-      few-upper few =
-          omega (arith, ap length (wrote-front w upper-room), ap length (low .are), bounds-paired (diagramOf t), few .few)
+      check-is : (space : ℕ) → checkCall t space ≡ settledInto 7 unchanged (verdict (diagramOf t)) space
+      unfolding checkCall
+      check-is space = ap (λ (o : Outcome Diagram). o >>= λ d. settledInto 7 unchanged (verdict d) space) (v .reads)
 
-      pub checked : {ls s s′ : List ℕ} {r : CheckAnswer} → Limits t ls
-          → Answered (ended (run (decode ls) l (take k b′)) (length s)) r s s′ → Answered (checkCall t (length s)) r s s′
+      pub checked : {o o′ : List ℕ} {a : Settlement}
+          → Answered (settledInto 7 unchanged (run (decode (take (r .limits) ls′)) (take (r .sets) low′) (take (r .sets) up′)) (length o)) a o o′
+          → Answered (checkCall t (length o)) a o o′
       unfolding verdictFrom
-      checked {s = s} e h =
-          rw (check-is (length s))
-          (rw (ap decode (e .are) ∙ decode-encode (limits (diagramOf t)), low .are, wrote-front w upper-room) at h)
+      checked {o} h =
+          rw (check-is (length o))
+          (rw (ap decode limits-front ∙ decode-encode (limits (diagramOf t)), lower-front, upper-front) at h)
 
--- a buffer that is not full has all that was to be written
-module _ {l xs l′ : List ℕ} {m : ℕ} (w : Wrote l 0 xs l′ m) (room : m < length l) where
-  fits : length xs ≤ length l
-  fits = omega (arith, wrote-fit w (let k : m < length l′ = omega (arith, wrote-long w) in k))
+-- ---- scratch that is set aside
 
-  part-within : m ≤ length l′
-  part-within = wrote-within w fits
+module _ {t : List ℕ} {roles groups : ℕ} (known : ValidTotals t roles groups) (a b c d e f : List ℕ) where
+  few : length (lower (diagramOf t)) ≤ 208
+  few = lower-few (diagramOf t) (known .valid .formed)
 
-  part-whole : take m l′ ≡ xs
-  part-whole = wrote-front w fits
+  whole : t ≡ table (diagramOf t)
+  whole = table-accepted-iff t (diagramOf t) .0 (known .valid .reads) .0
 
-module _ (t : List ℕ) {l l′ : List ℕ} {m : ℕ} where
-  module _ (w : Wrote l 0 (encode (limits (diagramOf t))) l′ m) (few : m < 128) (long : length l ≡ 128) where
-    pub few-limits-within : m ≤ length l′
-    few-limits-within = part-within w (omega arith)
+  pub space-any : length a ≡ 6752 → length b ≡ 208 → length c ≡ 208 → length d ≡ 208 → length e ≡ 208 → length f ≡ 13712
+      → Space t a b c d e f
+  space-any ha hb hc hd he hf =
+      let m : length (encode (limits (diagramOf t))) ≤ 6752 = limits-fit (diagramOf t) (known .valid .formed) in
+      record {
+        limits-room = omega arith;
+        lower-room = omega (arith, few);
+        upper-room = omega (arith, few);
+        next-room = omega (arith, few);
+        changed-room = omega (arith, few);
+        links-room = omega (arith, few);
+      }
 
-    pub few-limits-whole : Limits t (take m l′)
-    few-limits-whole = record { are = part-whole w (omega arith) }
-
--- ---- few sets
-
-module _ {t : List ℕ} {roles groups : ℕ} (known : Known t roles groups) where
-  all-sets : length (lower (diagramOf t)) ≡ firstRole (diagramOf t) + roles + groups
-  unfolding firstRole firstPred
-  all-sets =
-      length-lower (diagramOf t)
-      ∙ rw (known .counted .roles-are, known .counted .groups-are)
-
-  pub sets-are : {first : ℕ} → first ≡ firstRole (diagramOf t) → first + roles + groups ≡ length (lower (diagramOf t))
-  sets-are e = rw e (sym all-sets)
-
-  module _ (few : Few t) where
-    few-roles : length (typesOf (allRoles (diagramOf t))) < 32
-    few-roles =
-        omega (
-          arith,
-          length-map (allRoles (diagramOf t)) (λ (r : Role). r .type),
-          known .counted .roles-are,
-          all-sets,
-          few .few,
-        )
-
-    pub few-types-within : {a a′ : List ℕ} {n : ℕ} → length a ≡ 32 → Wrote a 0 (typesOf (allRoles (diagramOf t))) a′ n → n ≤ length a′
-    few-types-within h w = wrote-within w (omega (arith, few-roles))
-
-    pub few-types-whole : {a a′ : List ℕ} {n : ℕ} → length a ≡ 32 → Wrote a 0 (typesOf (allRoles (diagramOf t))) a′ n → Types t (take n a′)
-    few-types-whole {a} {a′} {n} h w =
-        let e : take n a′ ≡ typesOf (allRoles (diagramOf t)) = wrote-front w (omega (arith, few-roles)) in
-        record { are = e; few = rw e (omega (arith, few-roles)) }
-
-module _ {t : List ℕ} (few : Few t) {a a′ : List ℕ} {n : ℕ} (long : length a ≡ 32) (w : Wrote a 0 (lower (diagramOf t)) a′ n) where
-  pub few-lower-within : n ≤ length a′
-  few-lower-within = wrote-within w (omega (arith, few .few))
-
-  pub few-lower-whole : FewLowers t (take n a′)
-  few-lower-whole =
-      let e : take n a′ ≡ lower (diagramOf t) = wrote-front w (omega (arith, few .few)) in
-      record { are = e; few = rw e (few .few) }
-
-  pub few-lower-room : {b : List ℕ} → length b ≡ 32 → Lowers t (take n a′) b
-  few-lower-room k = record { are = few-lower-whole .are; room = omega (arith, few-lower-whole .few) }
-
-pub few-known : (t : List ℕ) {n : ℕ} → n ≡ length (lower (diagramOf t)) → n < 32 → Few t
-few-known t e h = record { few = rw (← e) h }
+  pub space-short : length t ≤ 64 → length a ≡ 600 → length b ≡ 32 → length c ≡ 32 → length d ≡ 32 → length e ≡ 32 → length f ≡ 1232
+      → Space t a b c d e f
+  space-short h ha hb hc hd he hf =
+      let m : length (encode (limits (diagramOf t))) ≤ 600 =
+      few-limits-fit (diagramOf t) (known .valid .formed) (omega (arith, ap length whole)) in
+      let n : length (lower (diagramOf t)) ≤ 30 = omega (arith, sets-few t (known .valid), bounds-paired (diagramOf t)) in
+      record {
+        limits-room = omega arith;
+        lower-room = omega arith;
+        upper-room = omega arith;
+        next-room = omega arith;
+        changed-room = omega arith;
+        links-room = omega arith;
+      }

@@ -1,21 +1,20 @@
 // The check: the sizes of a diagram's sets, from its table. The bounds and limits of the sets are
 // written into local arrays, and the rounds run over them.
 ghost use mathlib.Core.Path.{_≡_};
-ghost use Prim.Native.Nat.{_≤_, _<_};
+ghost use Prim.Native.Nat.{_≤_};
 ghost use lib.ListN.{length};
 ghost use Rattle.fixpoint.specs.Limits.{fixpoint, run};
 ghost use Rattle.lowering.specs.Encoding.{decode};
-ghost use Rattle.rounds.specs.Answer.{Bounds};
-ghost use Rattle.table.specs.Positions.{diagramOf};
-ghost use Rattle.orm.specs.Sets.{lower};
-ghost use Rattle.selection.specs.Selected.{Types};
+ghost use Rattle.rounds.specs.Answer.{Bounds, Scratch};
+ghost use Rattle.limits.specs.Prepared.{ValidTotals};
 ghost use Rattle.orm.specs.Outcome.{bufferAfter, written, handedBack};
-ghost use Rattle.orm.specs.Calls.{checkCall};
-ghost use Rattle.bounds.specs.Answer.{checkOf, ended, Answered, Known, Limits, Lowers, FewLowers, Few};
+ghost use Rattle.orm.specs.Calls.{settledInto, checkCall};
+ghost use Rattle.bounds.specs.Answer.{settlementOf, Answered, unchanged, Space};
 
-// How a check ends: the table is refused (1 to 6), a set is emptied (7), the buffer is too short for
-// the sizes (8), or the sizes stand at its front.
-pub enum CheckAnswer {
+// How a check ends, or any call that makes something of the settled sizes: the table is refused (1 to
+// 6), a set is emptied (7), the buffer is too short for the result (8), or the result stands at its
+// front.
+pub enum Settlement {
     Refused { fault: grammar::Fault, line: usize },
     Unsatisfiable { set: usize, round: u32 },
     TooShort { needed: usize },
@@ -23,32 +22,43 @@ pub enum CheckAnswer {
 }
 
 // The sizes go to the front of the buffer if it is long enough.
-fn fit(result: &[u32], rounds: u32, sizes: &mut [u32]) -> CheckAnswer
+fn fit(result: &[u32], rounds: u32, sizes: &mut [u32]) -> Settlement
     ensures { λ r.
-        ⌜ Answered (ended (fixpoint rounds (now (result .entry))) (length (now (sizes .entry)))) r (now (sizes .entry)) (now (sizes .exit)) ⌝ }
+        ⌜ Answered (settledInto 7 unchanged (fixpoint rounds (now (result .entry))) (length (now (sizes .entry)))) r
+        (now (sizes .entry)) (now (sizes .exit)) ⌝ }
 {
     if sizes.len() < result.len() {
-        return CheckAnswer::TooShort {
+        return Settlement::TooShort {
             needed: result.len(),
         };
     }
     buffer::append(sizes, 0, result);
-    CheckAnswer::Accepted {
+    Settlement::Accepted {
         length: result.len(),
         rounds,
     }
 }
 
-// The rounds and their end.
-fn answer(limits: &[u32], lower: &[u32], upper: &mut [u32], sizes: &mut [u32]) -> CheckAnswer
+// The rounds from these bounds, and their end; `next`, `changed` and `links` are scratch.
+fn settle(
+    limits: &[u32],
+    lower: &[u32],
+    upper: &mut [u32],
+    next: &mut [u32],
+    changed: &mut [usize],
+    links: &mut [u32],
+    sizes: &mut [u32],
+) -> Settlement
     requires { ⌜ Bounds (now limits) (now lower) (now upper) ⌝ }
+    requires { ⌜ Scratch (now limits) (now upper) (now next) (now changed) (now links) ⌝ }
     ensures { λ r.
-        ⌜ Answered (ended (run (decode (now (limits .entry))) (now (lower .entry)) (now (upper .entry))) (length (now (sizes .entry)))) r
-        (now (sizes .entry)) (now (sizes .exit)) ⌝ }
+        ⌜ Answered
+        (settledInto 7 unchanged (run (decode (now (limits .entry))) (now (lower .entry)) (now (upper .entry)))
+        (length (now (sizes .entry)))) r (now (sizes .entry)) (now (sizes .exit)) ⌝ }
 {
-    let outcome = rounds::settle_over(limits, lower, upper);
+    let outcome = rounds::settle(limits, lower, upper, next, changed, links);
     match outcome {
-        rounds::Outcome::Unsatisfiable { set, round } => CheckAnswer::Unsatisfiable {
+        rounds::Outcome::Unsatisfiable { set, round } => Settlement::Unsatisfiable {
             set: set + 1,
             round,
         },
@@ -56,61 +66,36 @@ fn answer(limits: &[u32], lower: &[u32], upper: &mut [u32], sizes: &mut [u32]) -
     }
 }
 
-// The same of a table with its limits and lower bounds; `upper` is scratch.
+// The check of a valid table with so many roles and groups; what stands between them and the sizes is
+// scratch, `next` first for the types of the roles.
 fn check_in(
     table: &[u32],
     roles: u32,
     groups: u32,
-    limits: &[u32],
-    lower: &[u32],
+    limits: &mut [u32],
+    lower: &mut [u32],
     upper: &mut [u32],
+    next: &mut [u32],
+    changed: &mut [usize],
+    links: &mut [u32],
     sizes: &mut [u32],
-) -> CheckAnswer
-    requires { ⌜ Known (now table) roles groups ⌝ }
-    requires { ⌜ Limits (now table) (now limits) ⌝ }
-    requires { ⌜ Lowers (now table) (now lower) (now upper) ⌝ }
+) -> Settlement
+    requires { ⌜ ValidTotals (now table) roles groups ⌝ }
+    requires { ⌜ Space (now table) (now limits) (now lower) (now upper) (now next) (now changed) (now links) ⌝ }
     ensures { λ r. ⌜ Answered (checkCall (now (table .entry)) (length (now (sizes .entry)))) r (now (sizes .entry)) (now (sizes .exit)) ⌝ }
 {
-    let k = limits::write_upper(table, roles, groups, upper);
-    answer(limits, lower, &mut upper[..k], sizes)
-}
-
-// The rounds of few sets and their end.
-fn answer_few(limits: &[u32], lower: &[u32], upper: &mut [u32], sizes: &mut [u32]) -> CheckAnswer
-    requires { ⌜ Bounds (now limits) (now lower) (now upper) ⌝ }
-    requires { ⌜ length (now upper) < 32 ⌝ }
-    ensures { λ r.
-        ⌜ Answered (ended (run (decode (now (limits .entry))) (now (lower .entry)) (now (upper .entry))) (length (now (sizes .entry)))) r
-        (now (sizes .entry)) (now (sizes .exit)) ⌝ }
-{
-    let outcome = rounds::settle_few(limits, lower, upper);
-    match outcome {
-        rounds::Outcome::Unsatisfiable { set: s, round: n } => CheckAnswer::Unsatisfiable {
-            set: s + 1,
-            round: n,
-        },
-        rounds::Outcome::Fixpoint { rounds } => fit(upper, rounds, sizes),
-    }
-}
-
-// The same of few sets. A function of its own, as the room of the other takes time to set aside.
-fn check_in_few(
-    table: &[u32],
-    roles: u32,
-    groups: u32,
-    limits: &[u32],
-    lower: &[u32],
-    upper: &mut [u32],
-    sizes: &mut [u32],
-) -> CheckAnswer
-    requires { ⌜ Known (now table) roles groups ⌝ }
-    requires { ⌜ Limits (now table) (now limits) ⌝ }
-    requires { ⌜ Lowers (now table) (now lower) (now upper) ⌝ }
-    requires { ⌜ FewLowers (now table) (now lower) ⌝ }
-    ensures { λ r. ⌜ Answered (checkCall (now (table .entry)) (length (now (sizes .entry)))) r (now (sizes .entry)) (now (sizes .exit)) ⌝ }
-{
-    let k = limits::write_upper(table, roles, groups, upper);
-    answer_few(limits, lower, &mut upper[..k], sizes)
+    let extent = limits::prepare(table, roles, groups, next, limits, lower, upper);
+    let m = extent.limits;
+    let n = extent.sets;
+    settle(
+        &limits[..m],
+        &lower[..n],
+        &mut upper[..n],
+        &mut next[..n],
+        changed,
+        links,
+        sizes,
+    )
 }
 
 // A call's result is a name in what is to be proved; an array written in place is all its numbers.
@@ -122,131 +107,89 @@ fn set_space() -> [u32; 208] {
     [0u32; 208]
 }
 
-fn role_space() -> [u32; 96] {
-    [0u32; 96]
+fn place_space() -> [usize; 208] {
+    [0usize; 208]
 }
 
-fn few_limits() -> [u32; 128] {
-    [0u32; 128]
+fn link_space() -> [u32; 13712] {
+    [0u32; 13712]
+}
+
+fn few_limits() -> [u32; 600] {
+    [0u32; 600]
 }
 
 fn few_sets() -> [u32; 32] {
     [0u32; 32]
 }
 
-// With room for the sets of every diagram.
-fn check_by(
-    table: &[u32],
-    roles: u32,
-    groups: u32,
-    limits: &[u32],
-    sizes: &mut [u32],
-) -> CheckAnswer
-    requires { ⌜ Known (now table) roles groups ⌝ }
-    requires { ⌜ Limits (now table) (now limits) ⌝ }
-    ensures { λ r. ⌜ Answered (checkCall (now (table .entry)) (length (now (sizes .entry)))) r (now (sizes .entry)) (now (sizes .exit)) ⌝ }
-{
-    let mut lower = set_space();
-    let mut upper = set_space();
-    let n = limits::write_lower(table, roles, groups, &mut lower);
-    check_in(table, roles, groups, limits, &lower[..n], &mut upper, sizes)
+fn few_places() -> [usize; 32] {
+    [0usize; 32]
 }
 
-// With room for the limits of every diagram.
-fn check_limited(
-    table: &[u32],
-    roles: u32,
-    groups: u32,
-    types: &[u32],
-    sizes: &mut [u32],
-) -> CheckAnswer
-    requires { ⌜ Known (now table) roles groups ⌝ }
-    requires { ⌜ Types (now table) (now types) ⌝ }
+fn few_links() -> [u32; 1232] {
+    [0u32; 1232]
+}
+
+// Sets aside scratch for every table.
+fn check_any(table: &[u32], roles: u32, groups: u32, sizes: &mut [u32]) -> Settlement
+    requires { ⌜ ValidTotals (now table) roles groups ⌝ }
     ensures { λ r. ⌜ Answered (checkCall (now (table .entry)) (length (now (sizes .entry)))) r (now (sizes .entry)) (now (sizes .exit)) ⌝ }
 {
     let mut limits = limit_space();
-    let m = limits::write_limits(table, types, &mut limits);
-    check_by(table, roles, groups, &limits[..m], sizes)
+    let mut lower = set_space();
+    let mut upper = set_space();
+    let mut next = set_space();
+    let mut changed = place_space();
+    let mut links = link_space();
+    check_in(
+        table,
+        roles,
+        groups,
+        &mut limits,
+        &mut lower,
+        &mut upper,
+        &mut next,
+        &mut changed,
+        &mut links,
+        sizes,
+    )
 }
 
-// With room for every diagram. The types of all roles are written once, as every type's limit asks for them.
-fn check_large(table: &[u32], roles: u32, groups: u32, sizes: &mut [u32]) -> CheckAnswer
-    requires { ⌜ Known (now table) roles groups ⌝ }
-    ensures { λ r. ⌜ Answered (checkCall (now (table .entry)) (length (now (sizes .entry)))) r (now (sizes .entry)) (now (sizes .exit)) ⌝ }
-{
-    let mut types = role_space();
-    let n = selection::write_types(table, &mut types);
-    check_limited(table, roles, groups, &types[..n], sizes)
-}
-
-// With room for few sets.
-fn check_few_by(
-    table: &[u32],
-    roles: u32,
-    groups: u32,
-    limits: &[u32],
-    sizes: &mut [u32],
-) -> CheckAnswer
-    requires { ⌜ Known (now table) roles groups ⌝ }
-    requires { ⌜ Limits (now table) (now limits) ⌝ }
-    requires { ⌜ Few (now table) ⌝ }
-    ensures { λ r. ⌜ Answered (checkCall (now (table .entry)) (length (now (sizes .entry)))) r (now (sizes .entry)) (now (sizes .exit)) ⌝ }
-{
-    let mut lower = few_sets();
-    let mut upper = few_sets();
-    let n = limits::write_lower(table, roles, groups, &mut lower);
-    check_in_few(table, roles, groups, limits, &lower[..n], &mut upper, sizes)
-}
-
-// With room for few limits, if that is enough.
-fn check_few_limited(
-    table: &[u32],
-    roles: u32,
-    groups: u32,
-    types: &[u32],
-    sizes: &mut [u32],
-) -> CheckAnswer
-    requires { ⌜ Known (now table) roles groups ⌝ }
-    requires { ⌜ Types (now table) (now types) ⌝ }
-    requires { ⌜ Few (now table) ⌝ }
+// Sets aside scratch for a short table: clearing as much as for every table takes longer than its rounds.
+fn check_short(table: &[u32], roles: u32, groups: u32, sizes: &mut [u32]) -> Settlement
+    requires { ⌜ ValidTotals (now table) roles groups ⌝ }
+    requires { ⌜ length (now table) ≤ 64 ⌝ }
     ensures { λ r. ⌜ Answered (checkCall (now (table .entry)) (length (now (sizes .entry)))) r (now (sizes .entry)) (now (sizes .exit)) ⌝ }
 {
     let mut limits = few_limits();
-    let m = limits::write_limits(table, types, &mut limits);
-    if m < 128 {
-        return check_few_by(table, roles, groups, &limits[..m], sizes);
-    }
-    check_large(table, roles, groups, sizes)
+    let mut lower = few_sets();
+    let mut upper = few_sets();
+    let mut next = few_sets();
+    let mut changed = few_places();
+    let mut links = few_links();
+    check_in(
+        table,
+        roles,
+        groups,
+        &mut limits,
+        &mut lower,
+        &mut upper,
+        &mut next,
+        &mut changed,
+        &mut links,
+        sizes,
+    )
 }
 
-// With little room: clearing much costs more than a small diagram's rounds.
-fn check_few(table: &[u32], roles: u32, groups: u32, sizes: &mut [u32]) -> CheckAnswer
-    requires { ⌜ Known (now table) roles groups ⌝ }
-    requires { ⌜ Few (now table) ⌝ }
+fn check_valid(table: &[u32], roles: u32, groups: u32, sizes: &mut [u32]) -> Settlement
+    requires { ⌜ ValidTotals (now table) roles groups ⌝ }
     ensures { λ r. ⌜ Answered (checkCall (now (table .entry)) (length (now (sizes .entry)))) r (now (sizes .entry)) (now (sizes .exit)) ⌝ }
 {
-    let mut types = few_sets();
-    let n = selection::write_types(table, &mut types);
-    check_few_limited(table, roles, groups, &types[..n], sizes)
-}
-
-// How many sets there are.
-fn set_count(table: &[u32], roles: u32, groups: u32) -> u32
-    requires { ⌜ Known (now table) roles groups ⌝ }
-    ensures { λ r. ⌜ r ≡ length (lower (diagramOf (now (table .entry)))) ⌝ }
-{
-    table::first_role(table) + roles + groups
-}
-
-// The check of a valid table with so many roles and groups.
-fn check_valid(table: &[u32], roles: u32, groups: u32, sizes: &mut [u32]) -> CheckAnswer
-    requires { ⌜ Known (now table) roles groups ⌝ }
-    ensures { λ r. ⌜ Answered (checkCall (now (table .entry)) (length (now (sizes .entry)))) r (now (sizes .entry)) (now (sizes .exit)) ⌝ }
-{
-    if set_count(table, roles, groups) < 32 {
-        return check_few(table, roles, groups, sizes);
+    if table.len() <= 64 {
+        return check_short(table, roles, groups, sizes);
     }
-    check_large(table, roles, groups, sizes)
+    check_any(table, roles, groups, sizes)
 }
 
 fn count(x: usize) -> u32
@@ -257,15 +200,15 @@ fn count(x: usize) -> u32
 }
 
 // Writes the sizes of the sets of a table's diagram, in set order.
-pub fn check(table: &[u32], sizes: &mut [u32]) -> CheckAnswer
-    ensures { λ r. ⌜ checkOf r ≡ handedBack (checkCall (now (table .entry)) (length (now (sizes .entry)))) ⌝ }
+pub fn check(table: &[u32], sizes: &mut [u32]) -> Settlement
+    ensures { λ r. ⌜ settlementOf r ≡ handedBack (checkCall (now (table .entry)) (length (now (sizes .entry)))) ⌝ }
     ensures { λ _.
         ⌜ now (sizes .exit)
         ≡ bufferAfter (written (checkCall (now (table .entry)) (length (now (sizes .entry))))) (now (sizes .entry)) ⌝ }
 {
     let form = reader::form(table);
     match form {
-        reader::FormAnswer::Refused { fault, line } => CheckAnswer::Refused { fault, line },
+        reader::FormAnswer::Refused { fault, line } => Settlement::Refused { fault, line },
         reader::FormAnswer::Accepted {
             types: _,
             preds: _,

@@ -1,5 +1,6 @@
-// From a table that can be walked: the lower and upper bounds of its sets and the limits between them,
-// written into buffers. Limits are written as numbers, as specs/Encoding.antt of lowering says.
+// What the rounds of a valid table's diagram start from: the lower and upper bounds of its sets and the
+// limits between them, written into lent arrays. Limits are numbers, as specs/Encoding.antt of lowering
+// says.
 mod preds;
 mod ranges;
 mod single;
@@ -18,9 +19,16 @@ ghost use Rattle.lowering.specs.Encoding.{encode};
 ghost use Rattle.buffer.specs.Written.{Wrote};
 ghost use Rattle.table.specs.Positions.{diagramOf, Walkable};
 ghost use Rattle.limits.specs.Single.{Counted};
+ghost use Rattle.limits.specs.Prepared.{ValidTotals, Roomy, Prepared};
+
+// How many sets a diagram has, and how many numbers its limits take.
+pub struct Extent {
+    pub sets: usize,
+    pub limits: usize,
+}
 
 // The lower bounds of all sets of a table with so many roles and groups.
-pub fn write_lower(t: &[u32], roles: u32, groups: u32, out: &mut [u32]) -> usize
+fn write_lower(t: &[u32], roles: u32, groups: u32, out: &mut [u32]) -> usize
     requires { ⌜ Walkable (now t) ⌝ }
     requires { ⌜ Counted (now t) roles groups ⌝ }
     ensures { λ r. ⌜ Wrote (now (out .entry)) 0 (lower (diagramOf (now (t .entry)))) (now (out .exit)) r ⌝ }
@@ -32,7 +40,7 @@ pub fn write_lower(t: &[u32], roles: u32, groups: u32, out: &mut [u32]) -> usize
 }
 
 // The upper bounds that the rounds start from.
-pub fn write_upper(t: &[u32], roles: u32, groups: u32, out: &mut [u32]) -> usize
+fn write_upper(t: &[u32], roles: u32, groups: u32, out: &mut [u32]) -> usize
     requires { ⌜ Walkable (now t) ⌝ }
     requires { ⌜ Counted (now t) roles groups ⌝ }
     ensures { λ r. ⌜ Wrote (now (out .entry)) 0 (upper (diagramOf (now (t .entry)))) (now (out .exit)) r ⌝ }
@@ -44,11 +52,35 @@ pub fn write_upper(t: &[u32], roles: u32, groups: u32, out: &mut [u32]) -> usize
 }
 
 // The limits of all sets, with the types of all roles at hand.
-pub fn write_limits(t: &[u32], types: &[u32], out: &mut [u32]) -> usize
+fn write_limits(t: &[u32], types: &[u32], out: &mut [u32]) -> usize
     requires { ⌜ Walkable (now t) ⌝ }
     requires { ⌜ Types (now t) (now types) ⌝ }
     ensures { λ r. ⌜ Wrote (now (out .entry)) 0 (encode (limits (diagramOf (now (t .entry))))) (now (out .exit)) r ⌝ }
 {
     let a = push_preds(t, selection::role_count(t, types), out, 0);
     push_types(t, types, table::first_role(t), out, a)
+}
+
+// The limits and bounds of the diagram of a table with so many roles and groups, at the fronts of
+// `limits`, `lower` and `upper`; `types` is scratch for the types of its roles.
+pub fn prepare(
+    t: &[u32],
+    roles: u32,
+    groups: u32,
+    types: &mut [u32],
+    limits: &mut [u32],
+    lower: &mut [u32],
+    upper: &mut [u32],
+) -> Extent
+    requires { ⌜ ValidTotals (now t) roles groups ⌝ }
+    requires { ⌜ Roomy (now t) (now types) (now limits) (now lower) (now upper) ⌝ }
+    ensures { λ r.
+        ⌜ Prepared (now (t .entry)) (now (types .entry)) (now (limits .entry)) (now (lower .entry)) (now (upper .entry)) r
+        (now (types .exit)) (now (limits .exit)) (now (lower .exit)) (now (upper .exit)) ⌝ }
+{
+    let n = selection::write_types(t, types);
+    let m = write_limits(t, &types[..n], limits);
+    write_lower(t, roles, groups, lower);
+    let sets = write_upper(t, roles, groups, upper);
+    Extent { sets, limits: m }
 }

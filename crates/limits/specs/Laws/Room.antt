@@ -8,7 +8,7 @@ use lib.Dec.{eqb}
 use mathlib.Core.List.{List, [], _∷_, _++_, map, flatMap, flatten, List·Memᴰ·head as here, List·Memᴰ·tail as there}
 use lib.ListN.{length, length-append, length-map}
 use Rattle.orm.specs.Diagram.{ObjectType, Role, Frequency, Predicate, Diagram, isRoot, isIndependent, isMandatory, isGrouped, index}
-use Rattle.orm.specs.Diagram.{allRoles, allGroups}
+use Rattle.orm.specs.Diagram.{allRoles, allGroups, table}
 use Rattle.counting.specs.Lists.{upFrom, mapFrom}
 use Rattle.fixpoint.specs.Limits.{Limit, product, sum}
 use Rattle.counting.specs.Terms.{Each}
@@ -19,6 +19,7 @@ use Rattle.orm.specs.Sets.{placedFrom, placed, groupSet, groupRoles, Part, grou
 use Rattle.orm.specs.Sets.{limitsOfGroup, limitOfRows, limitsOfPred, limitsOfType, limits}
 use Rattle.lowering.specs.Encoding.{encodeExpr, encode}
 use Rattle.lowering.specs.Laws.Decoding.{encode-append}
+use Rattle.table.specs.Laws.TableOf.{table-length}
 
 abbrev size : List Limit → ℕ
 size ls = length (encode ls)
@@ -141,21 +142,20 @@ size-preds types r p q (a ∷ ps) h =
       length-append (a .groups) (flatMap (λ (b : Predicate). b .groups) ps),
     )
 
-module _ (d : Diagram) (w : WellFormed d) where
-  size-type : (a : ℕ) (t : ObjectType) → size (limitsOfType d a t) ≤ 105
+module _ (d : Diagram) (w : WellFormed d) (most : ℕ) (few : length (allRoles d) ≤ most) where
+  size-type : (a : ℕ) (t : ObjectType) → size (limitsOfType d a t) ≤ 9 + most
   unfolding limitsOfType rolesOfType
   size-type a t =
       let ss : List Limit = onlyIf (not (isRoot t)) (atMost a (index (t .super))) in
       let played : Limit = record { target = a; most = sum (rolesOfType d (suc a)) } in
       let ps : List Limit = onlyIf (not (isIndependent t)) played in
-      let one : size (played ∷ []) ≤ 100 =
+      let one : size (played ∷ []) ≤ 4 + most =
       omega (
         arith,
         size-sum a (rolesOfType d (suc a)) [],
         size-none,
         select-le (λ (r : Role). eqb (r .type) (suc a)) (firstRole d)
             (allRoles d),
-        w .roleCount,
       ) in
       omega (
         arith,
@@ -164,18 +164,27 @@ module _ (d : Diagram) (w : WellFormed d) where
         size-only-if (not (isIndependent t)) played one,
       )
 
-  pub limits-fit : length (encode (limits d)) ≤ 6752
+  limits-size : length (encode (limits d))
+      ≤ 20 * length (allRoles d) + 20 * length (allGroups d) + 16 * length (d .preds) + (9 + most) * length (d .types)
   unfolding limits placed allRoles allGroups
-  limits-fit =
+  limits-size =
       let ps : List Limit = flatMap limitsOfPred (placed d) in
       let ts : List Limit = flatten (mapFrom (limitsOfType d) 0 (d .types)) in
       omega (
         arith,
         size-append ps ts,
         size-preds (length (d .types)) (firstPred d) (firstRole d) (firstGroup d) (d .preds) (w .preds),
-        size-items 105 (limitsOfType d) size-type 0 (d .types),
-        w .typeCount .1,
-        w .predCount .1,
-        w .roleCount,
-        w .groupCount,
+        size-items (9 + most) (limitsOfType d) size-type 0 (d .types),
       )
+
+module _ (d : Diagram) (w : WellFormed d) where
+  -- of every diagram
+  pub limits-fit : length (encode (limits d)) ≤ 6752
+  limits-fit =
+      omega (arith, limits-size d w 96 (w .roleCount), w .typeCount .1, w .predCount .1, w .roleCount, w .groupCount)
+
+  -- of one with a table of at most 64 numbers
+  pub few-limits-fit : length (table d) ≤ 64 → length (encode (limits d)) ≤ 600
+  few-limits-fit h =
+      let few : length (allRoles d) ≤ 20 = omega (arith, table-length d) in
+      omega (arith, limits-size d w 20 few, table-length d)

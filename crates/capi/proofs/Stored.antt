@@ -4,12 +4,10 @@ use mathlib.Core.Path.{_≡_, ap, _∙_}
 use mathlib.Core.List.{List, [], _∷_}
 use Rattle.orm.specs.Constraints.{Answer, valid, breaks}
 use Rattle.orm.specs.Outcome.{Outcome, refused, accepted, Handed}
-use Rattle.reader.specs.Answer.{readOf}
-use Rattle.reader.specs.declared.ReadAnswer.{ReadAnswer}
-use Rattle.bounds.specs.Answer.{checkOf}
-use Rattle.bounds.specs.declared.CheckAnswer.{CheckAnswer}
-use Rattle.populate.specs.Answer.{populateOf}
-use Rattle.populate.specs.declared.PopulateAnswer.{PopulateAnswer}
+use Rattle.reader.specs.Answer.{conversionOf}
+use Rattle.reader.specs.declared.Conversion.{Conversion}
+use Rattle.bounds.specs.Answer.{settlementOf}
+use Rattle.bounds.specs.declared.Settlement.{Settlement}
 use Rattle.validator.specs.Outcomes.{validateOf}
 use Rattle.validator.specs.declared.ValidateAnswer.{ValidateAnswer}
 use Rattle.capi.specs.Answers.{numbers, roundless, verdictNumbers}
@@ -43,22 +41,19 @@ module _ {a : List ℕ} where
 
   -- ---- the answer is the one that its arm matched
 
-  pub length-told : {r s : ReadAnswer} → r ≡ s → a ≡ numbers (roundless (readOf s)) → a ≡ numbers (roundless (readOf r))
-  length-told q e = rw q e
+  pub conversion-told : {r s : Conversion} → r ≡ s → a ≡ numbers (roundless (conversionOf s)) → a ≡ numbers (roundless (conversionOf r))
+  conversion-told q e = rw q e
 
-  pub check-told : {r s : CheckAnswer} → r ≡ s → a ≡ numbers (checkOf s) → a ≡ numbers (checkOf r)
-  check-told q e = rw q e
-
-  pub populate-told : {r s : PopulateAnswer} → r ≡ s → a ≡ numbers (populateOf s) → a ≡ numbers (populateOf r)
-  populate-told q e = rw q e
+  pub settlement-told : {r s : Settlement} → r ≡ s → a ≡ numbers (settlementOf s) → a ≡ numbers (settlementOf r)
+  settlement-told q e = rw q e
 
   pub validate-told : {r s : ValidateAnswer} → r ≡ s → a ≡ verdictNumbers (validateOf s) → a ≡ verdictNumbers (validateOf r)
   validate-told q e = rw q e
 
   -- ---- the answer is that of the call
 
-  pub length-sent : (x y : Outcome ℕ) → a ≡ numbers (roundless x) → x ≡ y → a ≡ numbers (roundless y)
-  length-sent x y e q = e ∙ ap (λ (o : Outcome ℕ). numbers (roundless o)) q
+  pub conversion-sent : (x y : Outcome ℕ) → a ≡ numbers (roundless x) → x ≡ y → a ≡ numbers (roundless y)
+  conversion-sent x y e q = e ∙ ap (λ (o : Outcome ℕ). numbers (roundless o)) q
 
   pub handed-sent : (x y : Outcome Handed) → a ≡ numbers x → x ≡ y → a ≡ numbers y
   handed-sent x y e q = e ∙ ap numbers q

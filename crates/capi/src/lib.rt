@@ -8,9 +8,8 @@ ghost use lib.ListN.{length};
 ghost use Rattle.orm.specs.Outcome.{lengthOf, bufferAfter, written, handedBack};
 ghost use Rattle.orm.specs.Calls.{readCall, checkCall, populateCall, validateCall, writeCall};
 ghost use Rattle.grammar.specs.Fault.{numberOf};
-ghost use Rattle.reader.specs.Answer.{readOf};
-ghost use Rattle.bounds.specs.Answer.{checkOf};
-ghost use Rattle.populate.specs.Answer.{populateOf};
+ghost use Rattle.reader.specs.Answer.{conversionOf};
+ghost use Rattle.bounds.specs.Answer.{settlementOf};
 ghost use Rattle.validator.specs.Outcomes.{validateOf};
 ghost use Rattle.capi.specs.Answers.{numbers, roundless, verdictNumbers};
 
@@ -38,48 +37,32 @@ fn store(answer: &mut [u64; 4], number: u64, place: u64, round: u64, length: u64
     *answer = [number, place, round, length];
 }
 
-// For the calls whose result is told by its length alone: reading and writing.
-fn store_length(answer: &mut [u64; 4], outcome: reader::ReadAnswer)
-    ensures { λ _. ⌜ now (answer .exit) ≡ numbers (roundless (readOf outcome)) ⌝ }
+// For the calls that run no rounds: reading and writing.
+fn store_conversion(answer: &mut [u64; 4], outcome: reader::Conversion)
+    ensures { λ _. ⌜ now (answer .exit) ≡ numbers (roundless (conversionOf outcome)) ⌝ }
 {
     match outcome {
-        reader::ReadAnswer::Accepted { length } => store(answer, 0, 0, 0, of_size(length)),
-        reader::ReadAnswer::Refused { fault, line } => {
+        reader::Conversion::Accepted { length } => store(answer, 0, 0, 0, of_size(length)),
+        reader::Conversion::Refused { fault, line } => {
             store(answer, number_of(fault), of_size(line), 0, 0)
         }
-        reader::ReadAnswer::TooShort { needed } => store(answer, 8, of_size(needed), 0, 0),
+        reader::Conversion::TooShort { needed } => store(answer, 8, of_size(needed), 0, 0),
     }
 }
 
-fn store_check(answer: &mut [u64; 4], outcome: bounds::CheckAnswer)
-    ensures { λ _. ⌜ now (answer .exit) ≡ numbers (checkOf outcome) ⌝ }
+// For the calls that run the rounds: check and populating.
+fn store_settlement(answer: &mut [u64; 4], outcome: bounds::Settlement)
+    ensures { λ _. ⌜ now (answer .exit) ≡ numbers (settlementOf outcome) ⌝ }
 {
     match outcome {
-        bounds::CheckAnswer::Refused { fault, line } => {
+        bounds::Settlement::Refused { fault, line } => {
             store(answer, number_of(fault), of_size(line), 0, 0)
         }
-        bounds::CheckAnswer::Unsatisfiable { set, round } => {
+        bounds::Settlement::Unsatisfiable { set, round } => {
             store(answer, 7, of_size(set), of_u32(round), 0)
         }
-        bounds::CheckAnswer::TooShort { needed } => store(answer, 8, of_size(needed), 0, 0),
-        bounds::CheckAnswer::Accepted { length, rounds } => {
-            store(answer, 0, 0, of_u32(rounds), of_size(length))
-        }
-    }
-}
-
-fn store_populate(answer: &mut [u64; 4], outcome: populate::PopulateAnswer)
-    ensures { λ _. ⌜ now (answer .exit) ≡ numbers (populateOf outcome) ⌝ }
-{
-    match outcome {
-        populate::PopulateAnswer::Refused { fault, line } => {
-            store(answer, number_of(fault), of_size(line), 0, 0)
-        }
-        populate::PopulateAnswer::Unsatisfiable { set, round } => {
-            store(answer, 7, of_size(set), of_u32(round), 0)
-        }
-        populate::PopulateAnswer::TooShort { needed } => store(answer, 8, of_size(needed), 0, 0),
-        populate::PopulateAnswer::Accepted { length, rounds } => {
+        bounds::Settlement::TooShort { needed } => store(answer, 8, of_size(needed), 0, 0),
+        bounds::Settlement::Accepted { length, rounds } => {
             store(answer, 0, 0, of_u32(rounds), of_size(length))
         }
     }
@@ -107,7 +90,7 @@ pub extern "C" fn legshorgan_read(text: &[u8], table: &mut [u32], answer: &mut [
     ensures { λ _. ⌜ now (table .exit) ≡ bufferAfter (readCall (now (text .entry)) (length (now (table .entry)))) (now (table .entry)) ⌝ }
 {
     let outcome = reader::read(text, table);
-    store_length(answer, outcome);
+    store_conversion(answer, outcome);
 }
 
 // The settled sizes of the sets of a table's diagram, in set order.
@@ -117,7 +100,7 @@ pub extern "C" fn legshorgan_check(table: &[u32], sizes: &mut [u32], answer: &mu
     ensures { λ _. ⌜ now (sizes .exit) ≡ bufferAfter (written (checkCall (now (table .entry)) (length (now (sizes .entry))))) (now (sizes .entry)) ⌝ }
 {
     let outcome = bounds::check(table, sizes);
-    store_check(answer, outcome);
+    store_settlement(answer, outcome);
 }
 
 // The cells of the population of a table's diagram.
@@ -127,7 +110,7 @@ pub extern "C" fn legshorgan_populate(table: &[u32], cells: &mut [u32], answer: 
     ensures { λ _. ⌜ now (cells .exit) ≡ bufferAfter (written (populateCall (now (table .entry)) (length (now (cells .entry))))) (now (cells .entry)) ⌝ }
 {
     let outcome = populate::populate(table, cells);
-    store_populate(answer, outcome);
+    store_settlement(answer, outcome);
 }
 
 // Whether cells are a population that meets the constraints of a table's diagram.
@@ -146,5 +129,5 @@ pub extern "C" fn legshorgan_write(table: &[u32], text: &mut [u8], answer: &mut 
     ensures { λ _. ⌜ now (text .exit) ≡ bufferAfter (writeCall (now (table .entry)) (length (now (text .entry)))) (now (text .entry)) ⌝ }
 {
     let outcome = writer::write(table, text);
-    store_length(answer, outcome);
+    store_conversion(answer, outcome);
 }

@@ -2,45 +2,50 @@
 use Prim.Native.Nat.{ℕ, _≤_, _<_}
 use native.Mathlib.Decide.{decLe}
 use native.Mathlib.Omega.{arith}
-use mathlib.Core.Path.{_≡_, sym, ap, ap₂, _∙_, subst}
+use mathlib.Core.Path.{_≡_, refl, sym, ap, ap₂, _∙_, subst}
+use mathlib.Core.Logic.{⊎-elim}
 use mathlib.Core.List.{List, [], _∷_, _++_, append-assoc}
 use lib.ListN.{length, take, drop, length-append}
 use lib.Seq.{take-append-seam, length-take-le}
+use types.Run.{OneOf}
+use denote.Enum.Declared.{tagOf}
 use Rattle.fixpoint.specs.Limits.{Verdict, fixpoint}
-use Rattle.orm.specs.Diagram.{Diagram, table}
+use Rattle.orm.specs.Diagram.{table}
 use Rattle.orm.specs.Form.{typeOf}
 use Rattle.orm.specs.Text.{bytes, separator, decimal, valuesText, lineText}
-use Rattle.orm.specs.Population.{cells}
+use Rattle.orm.specs.Sets.{verdict}
 use Rattle.orm.specs.Populate.{population}
 use Rattle.orm.specs.Outcome.{Outcome, refused, accepted, lengthOf, bufferAfter, written, Handed, handedBack}
 use Rattle.orm.specs.Calls.{readCall, checkCall, populateCall}
 use Rattle.orm.specs.Program.{report, program}
 use Rattle.orm.specs.Laws.Shape.{population-shaped}
 use Rattle.guarantee.specs.Guarantee.{Populated}
+use Rattle.guarantee.specs.Proof.{guarantee}
 use Rattle.grammar.specs.Fault.{numberOf}
 use Rattle.grammar.specs.declared.Fault.{Fault}
-use Rattle.reader.specs.Answer.{readOf}
-use Rattle.reader.specs.declared.ReadAnswer.{ReadAnswer}
-use Rattle.reader.specs.declared.ReadAnswer.the-variants as reads
-use Rattle.bounds.specs.Answer.{checkOf}
+use Rattle.reader.specs.Answer.{conversionOf}
+use Rattle.reader.specs.declared.Conversion.{Conversion}
+use Rattle.reader.specs.declared.Conversion.the-variants as reads
+use Rattle.bounds.specs.Answer.{settlementOf, Answered}
 use Rattle.bounds.specs.Laws.{sizes-few}
-use Rattle.bounds.specs.declared.CheckAnswer.{CheckAnswer}
-use Rattle.bounds.specs.declared.CheckAnswer.the-variants as checks
+use Rattle.bounds.specs.declared.Settlement.{Settlement}
+use Rattle.bounds.specs.declared.Settlement.the-variants.{Refused, Unsatisfiable, TooShort, Accepted}
+use Rattle.bounds.proofs.Settlement.{the-type}
 use Rattle.buffer.specs.Written.{Wrote}
-use Rattle.buffer.specs.Laws.{wrote-then, wrote-as}
+use Rattle.buffer.specs.Laws.{wrote-then, wrote-as, wrote-none}
 use Rattle.table.specs.Positions.{typeCount, diagramOf, Walkable}
+use Rattle.table.specs.Valid.{Valid}
 use Rattle.table.specs.Laws.Valid.{accepted-valid, valid-walkable}
 use Rattle.table.specs.Laws.Walks.{each-length}
-use Rattle.populate.specs.Answer.{populateOf}
-use Rattle.populate.specs.declared.PopulateAnswer.{PopulateAnswer}
-use Rattle.populate.specs.declared.PopulateAnswer.the-variants as fills
-use Rattle.populate.specs.Demand3.{CheckMeans, PopulateMeans, ReadMeans, Written, TableRead}
+use Rattle.populate.specs.Answer.{cellsOf, Settled}
+use Rattle.populate.specs.Demand3.{TableOf, Emptied, Making, Lacks, Written, Means, settledSizes, ReadMeans, TableRead}
 use Rattle.populate.specs.Tied.{demand-3}
 use Rattle.report.specs.Printed.{printed}
 use Rattle.report.specs.Laws.Printed.{printed-report}
-use Rattle.command.specs.Reports.{refusalLine, textReport, tableReport, Read, Settled}
+use Rattle.command.specs.Reports.{refusalLine, settlementLine, textReport, tableReport}
 use Rattle.command.specs.Laws.TableLength.{table-short}
-use Rattle.command.specs.Laws.Reports.{emptied-report, settled-report, large-report, table-accepted, table-report, table-means, text-report, faulty-report, program-cut, program-whole}
+use Rattle.command.specs.Laws.Reports.{emptied-report, settled-report, large-report, table-accepted, table-report, text-report, faulty-report}
+use Rattle.command.specs.Laws.Reports.{program-cut, program-whole}
 
 -- ---- the refusal
 
@@ -57,115 +62,166 @@ refusal-is number place round w₁ w₂ w₃ w₄ =
     (ap (λ (x : List ℕ). key ++ x)
     (append-assoc (decimal number) (44 ∷ []) (two ++ last) ∙ ap (λ (x : List ℕ). decimal number ++ 44 ∷ x) (append-assoc (decimal place) (44 ∷ []) last)))
 
+pub line-fault : {f : Fault} {n line : ℕ} {r : Settlement} → r ≡ Refused f line → n ≡ numberOf f → refusalLine n line 0 ≡ settlementLine r
+unfolding settlementLine
+line-fault e en = rw (e, en, settlementLine)
+
+pub line-emptied : {set round m : ℕ} {r : Settlement} → r ≡ Unsatisfiable set round → m ≡ round → refusalLine 7 set m ≡ settlementLine r
+unfolding settlementLine
+line-emptied e em = rw (e, em, settlementLine)
+
+pub line-short : {needed : ℕ} {r : Settlement} → r ≡ TooShort needed → refusalLine 8 needed 0 ≡ settlementLine r
+unfolding settlementLine
+line-short e = rw (e, settlementLine)
+
+module _ {o o′ : List ℕ} {to : ℕ} {r : Settlement} where
+  pub refused-fault : {f : Fault} {n line : ℕ} → r ≡ Refused f line → n ≡ numberOf f → Wrote o 0 (refusalLine n line 0) o′ to
+      → Wrote o 0 (settlementLine r) o′ to
+  refused-fault e en w = wrote-as w (line-fault e en)
+
+  pub refused-emptied : {set round m : ℕ} → r ≡ Unsatisfiable set round → m ≡ round → Wrote o 0 (refusalLine 7 set m) o′ to
+      → Wrote o 0 (settlementLine r) o′ to
+  refused-emptied e em w = wrote-as w (line-emptied e em)
+
+  pub refused-short : {needed : ℕ} → r ≡ TooShort needed → Wrote o 0 (refusalLine 8 needed 0) o′ to → Wrote o 0 (settlementLine r) o′ to
+  refused-short e w = wrote-as w (line-short e)
+
+pub refused-none : (o : List ℕ) {length rounds : ℕ} {r : Settlement} → r ≡ Accepted length rounds → Wrote o 0 (settlementLine r) o 0
+unfolding settlementLine
+refused-none o e = rw (e, settlementLine) (wrote-none o 0)
+
+-- ---- a call that settles
+
+-- none of its answers but acceptance has the position 3
+module _ {make : Making} {t s s′ : List ℕ} {A : Type 0} where
+  by-refusal : (r : Settlement) → OneOf (0 ∷ 1 ∷ 2 ∷ []) (tagOf the-type r) → Means t make r s s′
+      → ((f : Fault) (line : ℕ) → r ≡ Refused f line → (TableOf t → ⊥) → A)
+      → ((set round : ℕ) → r ≡ Unsatisfiable set round → Emptied t set round s s′ → A)
+      → ((needed : ℕ) → r ≡ TooShort needed → Lacks t make needed s s′ → A) → A
+  by-refusal (Refused f line) k m one two three = one f line refl (m .0)
+  by-refusal (Unsatisfiable set round) k m one two three = two set round refl m
+  by-refusal (TooShort needed) k m one two three = three needed refl m
+  by-refusal (Accepted n rounds) k m one two three =
+      ⊎-elim (λ z. absurd (omega arith)) (⊎-elim (λ z. absurd (omega arith)) (λ z. absurd (omega arith))) k
+
+fixpoint-same : {v : Verdict} {n m : ℕ} {c k : List ℕ} → v ≡ fixpoint n c → v ≡ fixpoint m k → (m ≡ n) × (k ≡ c)
+fixpoint-same e q = (cc, cc)
+
+-- the diagram of a table
+module _ {t : List ℕ} (x : TableOf t) where
+  valid : Valid t
+  valid = accepted-valid t (x .diagram) (table-accepted x)
+
+  same-diagram : diagramOf t ≡ x .diagram
+  same-diagram = cc (valid .reads, table-accepted x)
+
+  emptied-line : {set round : ℕ} {s s′ : List ℕ} → Emptied t set round s s′ → refusalLine 7 set round ≡ tableReport t
+  emptied-line {round = round} y =
+      ap (λ (k : ℕ). refusalLine 7 k round) (y .at .numbered) ∙ sym (emptied-report (y .of .diagram) (y .at .defined)) ∙ sym (table-report (y .of))
+
 -- ---- after the check
 
-module _ (t s s′ : List ℕ) (of : Read t) (a : CheckAnswer) (long : length s ≡ 208) (e : checkOf a ≡ handedBack (checkCall t (length s)))
-    (w : s′ ≡ bufferAfter (written (checkCall t (length s))) s) where
-  means : CheckMeans t (of .diagram) a s s′
-  means = table-means of .check s s′ a (record { handed = e; buffer = w })
+module _ (t s s′ : List ℕ) (of : TableOf t) (a : Settlement) (long : length s ≡ 208)
+    (e : settlementOf a ≡ handedBack (checkCall t (length s))) (w : s′ ≡ bufferAfter (written (checkCall t (length s))) s) where
+  means : Means t settledSizes a s s′
+  means = demand-3 .of-table t .check s s′ a (record { handed = e; buffer = w })
 
-  module _ {o o′ : List ℕ} {r : ℕ} where
-    pub check-faulty : {f : Fault} {line n : ℕ} → a ≡ checks.Refused f line → n ≡ numberOf f → Wrote o 0 (refusalLine n line 0) o′ r
-        → Wrote o 0 (tableReport t) o′ r
-    check-faulty q en v = absurd (subst (λ (x : CheckAnswer). CheckMeans t (of .diagram) x s s′) q means)
+  pub check-refused : {o o′ : List ℕ} {r : ℕ} → OneOf (0 ∷ 1 ∷ 2 ∷ []) (tagOf the-type a) → Wrote o 0 (settlementLine a) o′ r
+      → Wrote o 0 (tableReport t) o′ r
+  check-refused {o} {o′} {r} k v = wrote-as v (by-refusal a k means
+      (λ f line q none. absurd (none of))
+      (λ set round q y. sym (line-emptied q refl) ∙ emptied-line of y)
+      (λ needed q y. absurd (omega (
+        arith,
+        y .short,
+        y .length-needed,
+        long,
+        sizes-few (y .of .diagram) (y .of .wellFormed) (y .populated .settled-after .defined),
+      ))))
 
-    pub check-emptied : {set round m : ℕ} → a ≡ checks.Unsatisfiable set round → m ≡ round → Wrote o 0 (refusalLine 7 set m) o′ r
-        → Wrote o 0 (tableReport t) o′ r
-    check-emptied {set} {round} q em v =
-        let x = subst (λ (x : CheckAnswer). CheckMeans t (of .diagram) x s s′) q means in
-        wrote-as v
-        (ap₂ (refusalLine 7) (x .at .numbered) em ∙ sym (emptied-report (of .diagram) (x .at .defined)) ∙ sym (table-report of))
+  module _ {n rounds : ℕ} (q : a ≡ Accepted n rounds) where
+    y : Written t settledSizes n rounds s s′
+    y = subst (λ (x : Settlement). Means t settledSizes x s s′) q means
 
-    pub check-short : {needed : ℕ} → a ≡ checks.TooShort needed → Wrote o 0 (refusalLine 8 needed 0) o′ r → Wrote o 0 (tableReport t) o′ r
-    check-short q v =
-        let x = subst (λ (x : CheckAnswer). CheckMeans t (of .diagram) x s s′) q means in
-        absurd (omega (arith, x .short, x .length-needed, long, sizes-few (of .diagram) (of .wellFormed) (x .populated .settled-after .defined)))
-
-  module _ {n rounds : ℕ} (q : a ≡ checks.Accepted n rounds) where
-    x : Written t (of .diagram) (λ p. p .settled) n rounds s s′
-    x = subst (λ (x : CheckAnswer). CheckMeans t (of .diagram) x s s′) q means
-
-    front : take n s′ ≡ x .populated .settled
-    front =
-        ap₂ take (x .length-written) (x .front) ∙ take-append-seam (x .populated .settled) (drop n s)
+    front : take n s′ ≡ y .populated .settled
+    front = ap₂ take (y .length-written) (y .front) ∙ take-append-seam (y .populated .settled) (drop n s)
 
     pub check-settled : Settled t (take n s′) rounds
-    check-settled = record { of = of; settled = x .populated .settled-after .defined ∙ ap₂ fixpoint (sym (x .rounds-made)) (sym front) }
+    check-settled = record {
+      valid = valid (y .of);
+      ended = ap verdict (same-diagram (y .of)) ∙ y .populated .settled-after .defined ∙ ap₂ fixpoint (sym (y .rounds-made)) (sym front);
+    }
 
     pub sizes-within : n ≤ length s′
-    sizes-within = omega (arith, x .length-written, ap length (x .front), length-append (x .populated .settled) (drop n s))
+    sizes-within = omega (arith, y .length-written, ap length (y .front), length-append (y .populated .settled) (drop n s))
 
     pub sizes-count : n ≡ length (take n s′)
     sizes-count = sym (length-take-le n s′ sizes-within)
 
 -- ---- after populating
 
-fixpoint-same : {v : Verdict} {n m : ℕ} {c k : List ℕ} → v ≡ fixpoint n c → v ≡ fixpoint m k → (m ≡ n) × (k ≡ c)
-fixpoint-same e q = (cc, cc)
+module _ (t c s s′ : List ℕ) (rounds : ℕ) (settled : Settled t c rounds) (a : Settlement) (long : length s ≡ 16000)
+    (h : Answered (populateCall t (length s)) a s s′) where
+  filled : Means t cellsOf a s s′
+  filled = demand-3 .of-table t .populate s s′ a h
 
-module _ (t c s s′ : List ℕ) (rounds : ℕ) (settled : Settled t c rounds) (a : PopulateAnswer) (long : length s ≡ 16000)
-    (e : populateOf a ≡ handedBack (populateCall t (length s))) (w : s′ ≡ bufferAfter (written (populateCall t (length s))) s) where
-  abbrev of : Read t
-  of = settled .of
+  abbrev of : TableOf t
+  of = record {
+    diagram = diagramOf t;
+    same-table = guarantee .accepted-tables t (diagramOf t) .0 (settled .valid .reads) .0;
+    wellFormed = settled .valid .formed;
+  }
 
-  filled : PopulateMeans t (of .diagram) a s s′
-  filled = table-means of .populate s s′ a (record { handed = e; buffer = w })
-
-  same-sizes : (p : Populated t (of .diagram)) → p .settled ≡ c
-  same-sizes p = fixpoint-same (settled .settled) (p .settled-after .defined) .1
+  -- the settled sizes are those at hand
+  same-cells : (x : TableOf t) (p : Populated t (x .diagram)) → cellsOf (x .diagram) (p .settled) ≡ cellsOf (diagramOf t) c
+  same-cells x p =
+      let same : diagramOf t ≡ x .diagram = same-diagram x in
+      let sizes : p .settled ≡ c = fixpoint-same (rw same at (settled .ended)) (p .settled-after .defined) .1 in
+      rw (sizes, same)
 
   pub table-walkable : Walkable t
-  table-walkable = valid-walkable (accepted-valid t (of .diagram) (table-accepted of))
+  table-walkable = valid-walkable (settled .valid)
 
-  module _ {o o′ : List ℕ} {r : ℕ} where
-    pub fill-faulty : {f : Fault} {line n : ℕ} → a ≡ fills.Refused f line → n ≡ numberOf f → Wrote o 0 (refusalLine n line 0) o′ r
-        → Wrote o 0 (tableReport t) o′ r
-    fill-faulty q en v = absurd (subst (λ (x : PopulateAnswer). PopulateMeans t (of .diagram) x s s′) q filled)
+  pub fill-refused : {o o′ : List ℕ} {r : ℕ} → OneOf (0 ∷ 1 ∷ 2 ∷ []) (tagOf the-type a) → Wrote o 0 (settlementLine a) o′ r
+      → Wrote o 0 (tableReport t) o′ r
+  fill-refused {o} {o′} {r} k v = wrote-as v (by-refusal a k filled
+      (λ f line q none. absurd (none of))
+      (λ set round q y. sym (line-emptied q refl) ∙ emptied-line of y)
+      (λ needed q y.
+      let made : needed ≡ length (cellsOf (diagramOf t) c) = y .length-needed ∙ ap length (same-cells (y .of) (y .populated)) in
+      sym (line-short q)
+      ∙ ap (λ (m : ℕ). refusalLine 8 m 0) made
+      ∙ sym (large-report (diagramOf t) (settled .ended) (omega (arith, made, y .short, long)))
+      ∙ sym (table-report of)))
 
-    pub fill-emptied : {set round m : ℕ} → a ≡ fills.Unsatisfiable set round → m ≡ round → Wrote o 0 (refusalLine 7 set m) o′ r
-        → Wrote o 0 (tableReport t) o′ r
-    fill-emptied q em v =
-        let x = subst (λ (x : PopulateAnswer). PopulateMeans t (of .diagram) x s s′) q filled in
-        let z : _≡_ {A = ℕ} 0 1 = cc (x .at .defined, settled .settled) in
-        absurd (omega arith)
+  module _ {n k : ℕ} (q : a ≡ Accepted n k) where
+    u : Written t cellsOf n k s s′
+    u = subst (λ (x : Settlement). Means t cellsOf x s s′) q filled
 
-    pub fill-short : {needed : ℕ} → a ≡ fills.TooShort needed → Wrote o 0 (refusalLine 8 needed 0) o′ r → Wrote o 0 (tableReport t) o′ r
-    fill-short {needed} q v =
-        let x = subst (λ (x : PopulateAnswer). PopulateMeans t (of .diagram) x s s′) q filled in
-        let made : needed ≡ length (cells (population (of .diagram) c)) =
-        x .length-needed ∙ ap (λ (k : List ℕ). length (cells (population (of .diagram) k))) (same-sizes (x .populated)) in
-        wrote-as v
-        (ap (λ (m : ℕ). refusalLine 8 m 0) made
-        ∙ sym (large-report (of .diagram) (settled .settled) (omega (arith, made, x .short, long)))
-        ∙ sym (table-report of))
+    abbrev result : List ℕ
+    result = cellsOf (u .of .diagram) (u .populated .settled)
 
-  module _ {n k : ℕ} (q : a ≡ fills.Accepted n k) where
-    y : Written t (of .diagram) (λ p. cells (population (of .diagram) (p .settled))) n k s s′
-    y = subst (λ (x : PopulateAnswer). PopulateMeans t (of .diagram) x s s′) q filled
+    made : result ≡ cellsOf (diagramOf t) c
+    made = same-cells (u .of) (u .populated)
 
-    made : cells (population (of .diagram) (y .populated .settled)) ≡ cells (population (of .diagram) c)
-    made = ap (λ (k : List ℕ). cells (population (of .diagram) k)) (same-sizes (y .populated))
-
-    cells-front : take n s′ ≡ cells (population (of .diagram) c)
-    cells-front =
-        ap₂ take (y .length-written) (y .front) ∙ take-append-seam (cells (population (of .diagram) (y .populated .settled))) (drop n s) ∙ made
+    cells-front : take n s′ ≡ cellsOf (diagramOf t) c
+    cells-front = ap₂ take (u .length-written) (u .front) ∙ take-append-seam result (drop n s) ∙ made
 
     pub cells-within : n ≤ length s′
-    cells-within =
-        omega (arith, y .length-written, ap length (y .front), length-append (cells (population (of .diagram) (y .populated .settled))) (drop n s))
+    cells-within = omega (arith, u .length-written, ap length (u .front), length-append result (drop n s))
 
     pub cells-count : n ≡ length (take n s′)
     cells-count = sym (length-take-le n s′ cells-within)
 
-    room : length (cells (population (of .diagram) c)) ≤ 16000
-    room = go (decLe (length (cells (population (of .diagram) (y .populated .settled)))) (length s))
+    room : length (cellsOf (diagramOf t) c) ≤ 16000
+    room = go (decLe (length result) (length s))
       where
-        go : Dec (length (cells (population (of .diagram) (y .populated .settled))) ≤ length s) → length (cells (population (of .diagram) c)) ≤ 16000
-        go (yes h) = rw (← made, ← long) h
-        go (no h) =
-            let short = y .populated .populate-writes .too-short (length s) (omega arith) in
-            let h : _≡_ {A = Outcome Handed} (accepted (record { rounds = k; resultLength = n })) (handedBack (refused 8 _ 0)) =
-            sym (ap populateOf q) ∙ e ∙ ap handedBack short in
+        go : Dec (length result ≤ length s) → length (cellsOf (diagramOf t) c) ≤ 16000
+        go (yes l) = rw (← made, ← long) l
+        go (no l) =
+            let short = u .populated .populate-writes .too-short (length s) (omega arith) in
+            let told : _≡_ {A = Outcome Handed} (accepted (record { rounds = k; resultLength = n })) (handedBack (refused 8 _ 0)) =
+            sym (ap settlementOf q) ∙ h .handed ∙ ap handedBack short in
             let z : _≡_ {A = ℕ} 0 1 = cc in
             absurd (omega arith)
 
@@ -173,18 +229,16 @@ module _ (t c s s′ : List ℕ) (rounds : ℕ) (settled : Settled t c rounds) (
         → Wrote o 0 (tableReport t) o′ r
     unfolding diagramOf
     fill-printed v =
-        let valid = accepted-valid t (of .diagram) (table-accepted of) in
-        let same : diagramOf t ≡ of .diagram = cc (valid .reads, table-accepted of) in
-        let types : typeCount t ≡ length (of .diagram .types) = sym (each-length typeOf 6 (typeCount t) (drop 2 t)) ∙ ap (λ (x : Diagram). length (x .types)) same in
-        let whole : printed (diagramOf t) (typeCount t) rounds c (take n s′) ≡ report rounds c (population (of .diagram) c) =
-        ap₂ (λ (x : Diagram) (m : ℕ). printed x m rounds c (take n s′)) same types
-        ∙ ap (printed (of .diagram) (length (of .diagram .types)) rounds c) cells-front
-        ∙ printed-report (of .diagram) rounds c (population (of .diagram) c) (population-shaped (of .diagram) c) in
-        wrote-as v (whole ∙ sym (settled-report (of .diagram) (settled .settled) room) ∙ sym (table-report of))
+        let types : typeCount t ≡ length (diagramOf t .types) = sym (each-length typeOf 6 (typeCount t) (drop 2 t)) in
+        let whole : printed (diagramOf t) (typeCount t) rounds c (take n s′) ≡ report rounds c (population (diagramOf t) c) =
+        ap (λ (m : ℕ). printed (diagramOf t) m rounds c (take n s′)) types
+        ∙ ap (printed (diagramOf t) (length (diagramOf t .types)) rounds c) cells-front
+        ∙ printed-report (diagramOf t) rounds c (population (diagramOf t) c) (population-shaped (diagramOf t) c) in
+        wrote-as v (whole ∙ sym (settled-report (diagramOf t) (settled .ended) room) ∙ sym (table-report of))
 
 -- ---- after reading
 
-module _ (text s s′ : List ℕ) (a : ReadAnswer) (long : length s ≡ 708) (e : readOf a ≡ lengthOf (readCall text (length s)))
+module _ (text s s′ : List ℕ) (a : Conversion) (long : length s ≡ 708) (e : conversionOf a ≡ lengthOf (readCall text (length s)))
     (w : s′ ≡ bufferAfter (readCall text (length s)) s) where
   told : ReadMeans text a s s′
   told = demand-3 .of-text text s s′ a (record { handed = e; buffer = w })
@@ -193,24 +247,24 @@ module _ (text s s′ : List ℕ) (a : ReadAnswer) (long : length s ≡ 708) (e 
     pub read-faulty : {f : Fault} {line n : ℕ} → a ≡ reads.Refused f line → n ≡ numberOf f → Wrote o 0 (refusalLine n line 0) o′ r
         → Wrote o 0 (textReport text) o′ r
     read-faulty {f} {line} q en v =
-        let none = subst (λ (x : ReadAnswer). ReadMeans text x s s′) q told in
-        let h : refused (numberOf f) line 0 ≡ lengthOf (readCall text (length s)) = sym (ap readOf q) ∙ e in
+        let none = subst (λ (x : Conversion). ReadMeans text x s s′) q told in
+        let h : refused (numberOf f) line 0 ≡ lengthOf (readCall text (length s)) = sym (ap conversionOf q) ∙ e in
         wrote-as v (ap (λ (m : ℕ). refusalLine m line 0) en ∙ sym (faulty-report text (length s) (none .0) h))
 
     pub read-short : {needed : ℕ} → a ≡ reads.TooShort needed → Wrote o 0 (refusalLine 8 needed 0) o′ r → Wrote o 0 (textReport text) o′ r
     read-short q v =
-        let x = subst (λ (x : ReadAnswer). ReadMeans text x s s′) q told in
+        let x = subst (λ (x : Conversion). ReadMeans text x s s′) q told in
         absurd (omega (arith, x .short, x .length-needed, long, table-short (x .of .diagram) (x .of .wellFormed)))
 
   module _ {n : ℕ} (q : a ≡ reads.Accepted n) where
     z : TableRead text n s s′
-    z = subst (λ (x : ReadAnswer). ReadMeans text x s s′) q told
+    z = subst (λ (x : Conversion). ReadMeans text x s s′) q told
 
     table-front : take n s′ ≡ table (z .of .diagram)
     table-front = ap₂ take (z .length-read) (z .front) ∙ take-append-seam (table (z .of .diagram)) (drop n s)
 
-    pub table-read : Read (take n s′)
-    table-read = record { diagram = z .of .diagram; wellFormed = z .of .wellFormed; is = table-front }
+    pub table-read : TableOf (take n s′)
+    table-read = record { diagram = z .of .diagram; wellFormed = z .of .wellFormed; same-table = table-front }
 
     pub table-within : n ≤ length s′
     table-within = omega (arith, z .length-read, ap length (z .front), length-append (table (z .of .diagram)) (drop n s))

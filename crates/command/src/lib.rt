@@ -6,7 +6,9 @@ ghost use Prim.Native.Nat.{_≤_};
 ghost use lib.ListN.{length};
 ghost use Rattle.orm.specs.Program.{program};
 ghost use Rattle.buffer.specs.Written.{Wrote};
-ghost use Rattle.command.specs.Reports.{refusalLine, textReport, tableReport, Read, Settled};
+ghost use Rattle.populate.specs.Answer.{Settled};
+ghost use Rattle.populate.specs.Demand3.{TableOf};
+ghost use Rattle.command.specs.Reports.{refusalLine, settlementLine, textReport, tableReport};
 
 // `refused=NUMBER,PLACE,ROUND`
 pub fn push_refusal(out: &mut [u8], number: usize, place: usize, round: usize) -> usize
@@ -16,6 +18,28 @@ pub fn push_refusal(out: &mut [u8], number: usize, place: usize, round: usize) -
     let b = numerals::push_value(out, a, number, 2);
     let c = numerals::push_value(out, b, place, 1);
     numerals::push_value(out, c, round, 0)
+}
+
+// The refusal that check or populating ends with; nothing where it ends with none.
+fn push_refused(out: &mut [u8], answer: bounds::Settlement) -> usize
+    ensures { λ r. ⌜ Wrote (now (out .entry)) 0 (settlementLine answer) (now (out .exit)) r ⌝ }
+{
+    match answer {
+        bounds::Settlement::Refused { fault, line } => push_refusal(
+            out,
+            grammar::number_of(fault),
+            line,
+            0,
+        ),
+        bounds::Settlement::Unsatisfiable { set, round } => {
+            push_refusal(out, 7, set, table::index(round))
+        }
+        bounds::Settlement::TooShort { needed } => push_refusal(out, 8, needed, 0),
+        bounds::Settlement::Accepted {
+            length: _,
+            rounds: _,
+        } => 0,
+    }
 }
 
 // What is printed where the sizes have settled; `cells` is scratch.
@@ -30,70 +54,42 @@ fn print_cells(
     requires { ⌜ length (now cells) ≡ 16000 ⌝ }
     ensures { λ r. ⌜ Wrote (now (out .entry)) 0 (tableReport (now (table .entry))) (now (out .exit)) r ⌝ }
 {
-    let answer = populate::populate(table, cells);
-    match answer {
-        populate::PopulateAnswer::Refused { fault, line } => push_refusal(
-            out,
-            grammar::number_of(fault),
-            line,
-            0,
-        ),
-        populate::PopulateAnswer::Unsatisfiable { set, round } => {
-            push_refusal(out, 7, set, table::index(round))
-        }
-        populate::PopulateAnswer::TooShort { needed } => push_refusal(out, 8, needed, 0),
-        populate::PopulateAnswer::Accepted { length, rounds: _ } => {
-            report::push_report(out, table, rounds, sizes, &cells[..length])
-        }
-    }
+    let answer = populate::populate_settled(table, sizes, rounds, cells);
+    let bounds::Settlement::Accepted { length, rounds: _ } = answer else {
+        return push_refused(out, answer);
+    };
+    report::push_report(out, table, rounds, sizes, &cells[..length])
 }
 
-fn cell_space() -> [u32; 16000] {
-    [0u32; 16000]
-}
-
-fn print_settled(table: &[u32], sizes: &[u32], rounds: u32, out: &mut [u8]) -> usize
-    requires { ⌜ Settled (now table) (now sizes) rounds ⌝ }
-    ensures { λ r. ⌜ Wrote (now (out .entry)) 0 (tableReport (now (table .entry))) (now (out .exit)) r ⌝ }
-{
-    let mut cells = cell_space();
-    print_cells(table, sizes, rounds, &mut cells, out)
-}
-
-// What is printed of a table that was read; `sizes` is scratch.
-fn print_sizes(table: &[u32], sizes: &mut [u32], out: &mut [u8]) -> usize
-    requires { ⌜ Read (now table) ⌝ }
+// What is printed of a table that was read; `sizes` and `cells` are scratch.
+fn print_sizes(table: &[u32], sizes: &mut [u32], cells: &mut [u32], out: &mut [u8]) -> usize
+    requires { ⌜ TableOf (now table) ⌝ }
     requires { ⌜ length (now sizes) ≡ 208 ⌝ }
+    requires { ⌜ length (now cells) ≡ 16000 ⌝ }
     ensures { λ r. ⌜ Wrote (now (out .entry)) 0 (tableReport (now (table .entry))) (now (out .exit)) r ⌝ }
 {
     let answer = bounds::check(table, sizes);
-    match answer {
-        bounds::CheckAnswer::Refused { fault, line } => push_refusal(
-            out,
-            grammar::number_of(fault),
-            line,
-            0,
-        ),
-        bounds::CheckAnswer::Unsatisfiable { set, round } => {
-            push_refusal(out, 7, set, table::index(round))
-        }
-        bounds::CheckAnswer::TooShort { needed } => push_refusal(out, 8, needed, 0),
-        bounds::CheckAnswer::Accepted { length, rounds } => {
-            print_settled(table, &sizes[..length], rounds, out)
-        }
-    }
+    let bounds::Settlement::Accepted { length, rounds } = answer else {
+        return push_refused(out, answer);
+    };
+    print_cells(table, &sizes[..length], rounds, cells, out)
 }
 
 fn set_space() -> [u32; 208] {
     [0u32; 208]
 }
 
+fn cell_space() -> [u32; 16000] {
+    [0u32; 16000]
+}
+
 fn print_table(table: &[u32], out: &mut [u8]) -> usize
-    requires { ⌜ Read (now table) ⌝ }
+    requires { ⌜ TableOf (now table) ⌝ }
     ensures { λ r. ⌜ Wrote (now (out .entry)) 0 (tableReport (now (table .entry))) (now (out .exit)) r ⌝ }
 {
     let mut sizes = set_space();
-    print_sizes(table, &mut sizes, out)
+    let mut cells = cell_space();
+    print_sizes(table, &mut sizes, &mut cells, out)
 }
 
 // What is printed of a text; `table` is scratch.
@@ -103,14 +99,14 @@ fn print_text(text: &[u8], table: &mut [u32], out: &mut [u8]) -> usize
 {
     let answer = reader::read(text, table);
     match answer {
-        reader::ReadAnswer::Refused { fault, line } => push_refusal(
+        reader::Conversion::Refused { fault, line } => push_refusal(
             out,
             grammar::number_of(fault),
             line,
             0,
         ),
-        reader::ReadAnswer::TooShort { needed } => push_refusal(out, 8, needed, 0),
-        reader::ReadAnswer::Accepted { length } => print_table(&table[..length], out),
+        reader::Conversion::TooShort { needed } => push_refusal(out, 8, needed, 0),
+        reader::Conversion::Accepted { length } => print_table(&table[..length], out),
     }
 }
 

@@ -17,8 +17,8 @@ use Rattle.reader.specs.declared.Line.{Line}
 use Rattle.reader.specs.declared.Line.the-variants.{Halted, Reached}
 use Rattle.reader.specs.declared.Lines.{Lines}
 use Rattle.reader.specs.declared.Lines.the-variants.{Faulty, Whole}
-use Rattle.reader.specs.declared.ReadAnswer.{ReadAnswer}
-use Rattle.reader.specs.Answer.{readOf, totalled}
+use Rattle.reader.specs.declared.Conversion.{Conversion}
+use Rattle.reader.specs.Answer.{conversionOf, totalled}
 use Rattle.reader.specs.Lines.{summarised, linesOf, InsideAt, Inside}
 use Rattle.reader.specs.Reach.{refusalOf}
 
@@ -65,8 +65,8 @@ module _ (text numbers : List ℕ) (l : Lines) (e : linesOf numbers l ≡ summar
         let same : take n numbers ≡ table (w .0) = ap (λ (s : Summary). s .numbers) (w .2) in
         rw (w .1) (ap (fitted space) same)
 
-    pub whole-outcome : (t : List ℕ) (r : ReadAnswer) → readOf r ≡ lengthOf (fitted (length t) (take n numbers))
-        → readOf r ≡ lengthOf (readCall text (length t))
+    pub whole-outcome : (t : List ℕ) (r : Conversion) → conversionOf r ≡ lengthOf (fitted (length t) (take n numbers))
+        → conversionOf r ≡ lengthOf (readCall text (length t))
     whole-outcome t r w = w ∙ ap lengthOf (call-fitted (length t))
 
     pub whole-written : (t : List ℕ) {t′ : List ℕ} → t′ ≡ bufferAfter (fitted (length t) (take n numbers)) t

@@ -3,16 +3,16 @@ use Prim.Native.Nat.{ℕ}
 use Rattle.orm.specs.Diagram.{Diagram, Totals, totals}
 use Rattle.orm.specs.Outcome.{Outcome, refused, accepted, _>>=_}
 use Rattle.grammar.specs.Fault.{numberOf}
-use Rattle.reader.specs.declared.ReadAnswer.{ReadAnswer}
-use Rattle.reader.specs.declared.ReadAnswer.the-variants as reads
+use Rattle.reader.specs.declared.Conversion.{Conversion}
+use Rattle.reader.specs.declared.Conversion.the-variants as reads
 use Rattle.reader.specs.declared.FormAnswer.{FormAnswer}
 use Rattle.reader.specs.declared.FormAnswer.the-variants as forms
 
 -- Of each answer document 01's number, place and round; or the length of the result
-abbrev pub readOf : ReadAnswer → Outcome ℕ
-readOf (reads.Accepted length) = accepted length
-readOf (reads.Refused f line) = refused (numberOf f) line 0
-readOf (reads.TooShort needed) = refused 8 needed 0
+abbrev pub conversionOf : Conversion → Outcome ℕ
+conversionOf (reads.Accepted length) = accepted length
+conversionOf (reads.Refused f line) = refused (numberOf f) line 0
+conversionOf (reads.TooShort needed) = refused 8 needed 0
 
 -- The same of a table; or what its diagram has
 abbrev pub formOf : FormAnswer → Outcome Totals

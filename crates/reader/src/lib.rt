@@ -16,7 +16,7 @@ ghost use lib.ListN.{length, take, drop};
 ghost use Rattle.orm.specs.Text.{tableLine};
 ghost use Rattle.orm.specs.Outcome.{lengthOf, fitted, bufferAfter};
 ghost use Rattle.orm.specs.Calls.{diagramIn, readCall};
-ghost use Rattle.reader.specs.Answer.{readOf, formOf, totalled};
+ghost use Rattle.reader.specs.Answer.{conversionOf, formOf, totalled};
 
 // Lines count from 1.
 const FIRST_LINE: usize = 1;
@@ -36,7 +36,7 @@ enum Lines {
 
 // How reading a text ends: accepted with the table's length, refused with 1 to 6, or with 8 where the
 // table is too short. A refused call writes nothing.
-pub enum ReadAnswer {
+pub enum Conversion {
     Accepted { length: usize },
     Refused { fault: Fault, line: usize },
     TooShort { needed: usize },
@@ -70,27 +70,27 @@ fn copy(src: &[u32], n: usize, dst: &mut [u32])
 }
 
 // The first `n` numbers go to the front of the table, if it has room for them.
-fn hand_out(n: usize, numbers: &[u32], table: &mut [u32]) -> ReadAnswer
+fn hand_out(n: usize, numbers: &[u32], table: &mut [u32]) -> Conversion
     requires { ⌜ n ≤ length (now numbers) ⌝ }
-    ensures { λ r. ⌜ readOf r ≡ lengthOf (fitted (length (now (table .entry))) (take n (now (numbers .entry)))) ⌝ }
+    ensures { λ r. ⌜ conversionOf r ≡ lengthOf (fitted (length (now (table .entry))) (take n (now (numbers .entry)))) ⌝ }
     ensures { λ _. ⌜ now (table .exit) ≡ bufferAfter (fitted (length (now (table .entry))) (take n (now (numbers .entry)))) (now (table .entry)) ⌝ }
 {
     if table.len() < n {
-        return ReadAnswer::TooShort { needed: n };
+        return Conversion::TooShort { needed: n };
     }
     copy(numbers, n, table);
-    ReadAnswer::Accepted { length: n }
+    Conversion::Accepted { length: n }
 }
 
 // Reads a text by way of `numbers`, so that a refused call leaves the table as it was.
-fn read_by(text: &[u8], numbers: &mut [u32], table: &mut [u32]) -> ReadAnswer
+fn read_by(text: &[u8], numbers: &mut [u32], table: &mut [u32]) -> Conversion
     requires { ⌜ length (now numbers) ≡ 708 ⌝ }
-    ensures { λ r. ⌜ readOf r ≡ lengthOf (readCall (now (text .entry)) (length (now (table .entry)))) ⌝ }
+    ensures { λ r. ⌜ conversionOf r ≡ lengthOf (readCall (now (text .entry)) (length (now (table .entry)))) ⌝ }
     ensures { λ _. ⌜ now (table .exit) ≡ bufferAfter (readCall (now (text .entry)) (length (now (table .entry)))) (now (table .entry)) ⌝ }
 {
     let lines = read_lines(text, numbers);
     match lines {
-        Lines::Faulty { fault, line } => ReadAnswer::Refused { fault, line },
+        Lines::Faulty { fault, line } => Conversion::Refused { fault, line },
         Lines::Whole { length, counts: _ } => hand_out(length, numbers, table),
     }
 }
@@ -101,8 +101,8 @@ fn scratch() -> [u32; 708] {
 }
 
 // Reads a diagram from its text; its table goes to the front, and what is behind it stays.
-pub fn read(text: &[u8], table: &mut [u32]) -> ReadAnswer
-    ensures { λ r. ⌜ readOf r ≡ lengthOf (readCall (now (text .entry)) (length (now (table .entry)))) ⌝ }
+pub fn read(text: &[u8], table: &mut [u32]) -> Conversion
+    ensures { λ r. ⌜ conversionOf r ≡ lengthOf (readCall (now (text .entry)) (length (now (table .entry)))) ⌝ }
     ensures { λ _. ⌜ now (table .exit) ≡ bufferAfter (readCall (now (text .entry)) (length (now (table .entry)))) (now (table .entry)) ⌝ }
 {
     let mut numbers = scratch();

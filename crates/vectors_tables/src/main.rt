@@ -96,10 +96,10 @@ fn is_checked_likewise(table: &[u32], form: Form) -> bool {
     let mut sizes = set_space();
     let answer = bounds::check(table, &mut sizes);
     match answer {
-        bounds::CheckAnswer::Refused { fault, line } => is_same(form, refused(fault, line)),
-        bounds::CheckAnswer::TooShort { needed: _ } => false,
-        bounds::CheckAnswer::Unsatisfiable { set: _, round: _ } => form.number == 0,
-        bounds::CheckAnswer::Accepted {
+        bounds::Settlement::Refused { fault, line } => is_same(form, refused(fault, line)),
+        bounds::Settlement::TooShort { needed: _ } => false,
+        bounds::Settlement::Unsatisfiable { set: _, round: _ } => form.number == 0,
+        bounds::Settlement::Accepted {
             length: _,
             rounds: _,
         } => form.number == 0,
@@ -111,9 +111,9 @@ fn is_written_likewise(table: &[u32], form: Form) -> bool {
     let mut text = io::buffer();
     let answer = writer::write(table, &mut text);
     match answer {
-        reader::ReadAnswer::Refused { fault, line } => is_same(form, refused(fault, line)),
-        reader::ReadAnswer::TooShort { needed: _ } => false,
-        reader::ReadAnswer::Accepted { length } => {
+        reader::Conversion::Refused { fault, line } => is_same(form, refused(fault, line)),
+        reader::Conversion::TooShort { needed: _ } => false,
+        reader::Conversion::Accepted { length } => {
             let n = cases::within(length, &text);
             is_read_as(&text[..n], table)
         }
@@ -125,9 +125,9 @@ fn is_read_as(text: &[u8], table: &[u32]) -> bool {
     let mut numbers = table_space();
     let answer = reader::read(text, &mut numbers);
     match answer {
-        reader::ReadAnswer::Refused { fault: _, line: _ } => false,
-        reader::ReadAnswer::TooShort { needed: _ } => false,
-        reader::ReadAnswer::Accepted { length } => {
+        reader::Conversion::Refused { fault: _, line: _ } => false,
+        reader::Conversion::TooShort { needed: _ } => false,
+        reader::Conversion::Accepted { length } => {
             let n = cases::within_numbers(length, &numbers);
             are_same(&numbers[..n], table)
         }

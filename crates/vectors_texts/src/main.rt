@@ -49,9 +49,9 @@ fn push_return(out: &mut [u8], at: usize, text: &[u8]) -> usize {
     let mut table = table_space();
     let answer = reader::read(text, &mut table);
     match answer {
-        reader::ReadAnswer::Refused { fault: _, line: _ } => at,
-        reader::ReadAnswer::TooShort { needed: _ } => cases::push_same(out, at, false),
-        reader::ReadAnswer::Accepted { length } => {
+        reader::Conversion::Refused { fault: _, line: _ } => at,
+        reader::Conversion::TooShort { needed: _ } => cases::push_same(out, at, false),
+        reader::Conversion::Accepted { length } => {
             let n = cases::within_numbers(length, &table);
             cases::push_same(out, at, is_text_of(&table[..n], text))
         }
@@ -63,9 +63,9 @@ fn is_text_of(table: &[u32], text: &[u8]) -> bool {
     let mut written = io::buffer();
     let answer = writer::write(table, &mut written);
     match answer {
-        reader::ReadAnswer::Refused { fault: _, line: _ } => false,
-        reader::ReadAnswer::TooShort { needed: _ } => false,
-        reader::ReadAnswer::Accepted { length } => {
+        reader::Conversion::Refused { fault: _, line: _ } => false,
+        reader::Conversion::TooShort { needed: _ } => false,
+        reader::Conversion::Accepted { length } => {
             let n = cases::within(length, &written);
             check::same(&written[..n], text)
         }

@@ -15,11 +15,11 @@ use Rattle.table.specs.Positions.{diagramOf}
 use Rattle.table.specs.Valid.{Valid}
 use Rattle.table.specs.Laws.Valid.{accepted-valid, valid-walkable}
 use Rattle.grammar.specs.declared.Fault.{Fault}
-use Rattle.reader.specs.declared.ReadAnswer.{ReadAnswer}
+use Rattle.reader.specs.declared.Conversion.{Conversion}
 use Rattle.reader.specs.declared.FormAnswer.{FormAnswer}
 use Rattle.reader.specs.declared.FormAnswer.the-variants.{Accepted, Refused}
 use Rattle.grammar.specs.Fault.{numberOf}
-use Rattle.reader.specs.Answer.{readOf, formOf, totalled}
+use Rattle.reader.specs.Answer.{conversionOf, formOf, totalled}
 use Rattle.writer.specs.Lines.{Counted}
 
 module _ {A B : Type 0} (make : A → B) where
@@ -78,8 +78,8 @@ module _ (t : List ℕ) {form : FormAnswer} (e : formOf form ≡ totalled (diagr
       unfolding writeCall
       call-fitted space = rw (wrote-front w room, valid .reads) refl
 
-      pub whole-outcome : (text : List ℕ) (r : ReadAnswer) → readOf r ≡ lengthOf (fitted (length text) (take n s′))
-          → readOf r ≡ lengthOf (writeCall t (length text))
+      pub whole-outcome : (text : List ℕ) (r : Conversion) → conversionOf r ≡ lengthOf (fitted (length text) (take n s′))
+          → conversionOf r ≡ lengthOf (writeCall t (length text))
       whole-outcome text r h = h ∙ ap lengthOf (call-fitted (length text))
 
       pub whole-written : (text : List ℕ) {text′ : List ℕ} → text′ ≡ bufferAfter (fitted (length text) (take n s′)) text

@@ -3,7 +3,7 @@
 // The text is put together in a scratch buffer and copied at the end, so that a call whose text is too
 // short writes nothing. The functions below write from the index `at` on and answer the index behind
 // what they wrote.
-use reader::ReadAnswer;
+use reader::Conversion;
 ghost use mathlib.Core.Path.{_≡_};
 ghost use mathlib.Core.List.{_++_};
 ghost use Prim.Native.Nat.{_+_, _≤_};
@@ -14,7 +14,7 @@ ghost use Rattle.orm.specs.Outcome.{lengthOf, fitted, bufferAfter};
 ghost use Rattle.orm.specs.Calls.{writeCall};
 ghost use Rattle.buffer.specs.Written.{Wrote};
 ghost use Rattle.table.specs.Positions.{predOf, predLength, diagramOf, Walkable};
-ghost use Rattle.reader.specs.Answer.{readOf};
+ghost use Rattle.reader.specs.Answer.{conversionOf};
 ghost use Rattle.writer.specs.Lines.{linesText, linesToTypes, predLines, Counted};
 
 // The lines of the predicate that starts at p.
@@ -82,27 +82,27 @@ fn copy(src: &[u8], n: usize, dst: &mut [u8])
 }
 
 // The first `n` bytes go to the front of the text, if it has room for them.
-fn hand_out(n: usize, bytes: &[u8], text: &mut [u8]) -> ReadAnswer
+fn hand_out(n: usize, bytes: &[u8], text: &mut [u8]) -> Conversion
     requires { ⌜ n ≤ length (now bytes) ⌝ }
-    ensures { λ r. ⌜ readOf r ≡ lengthOf (fitted (length (now (text .entry))) (take n (now (bytes .entry)))) ⌝ }
+    ensures { λ r. ⌜ conversionOf r ≡ lengthOf (fitted (length (now (text .entry))) (take n (now (bytes .entry)))) ⌝ }
     ensures { λ _. ⌜ now (text .exit) ≡ bufferAfter (fitted (length (now (text .entry))) (take n (now (bytes .entry)))) (now (text .entry)) ⌝ }
 {
     if text.len() < n {
-        return ReadAnswer::TooShort { needed: n };
+        return Conversion::TooShort { needed: n };
     }
     copy(bytes, n, text);
-    ReadAnswer::Accepted { length: n }
+    Conversion::Accepted { length: n }
 }
 
 // Writes by way of `bytes`.
-fn write_by(table: &[u32], bytes: &mut [u8], text: &mut [u8]) -> ReadAnswer
+fn write_by(table: &[u32], bytes: &mut [u8], text: &mut [u8]) -> Conversion
     requires { ⌜ length (now bytes) ≡ 3603 ⌝ }
-    ensures { λ r. ⌜ readOf r ≡ lengthOf (writeCall (now (table .entry)) (length (now (text .entry)))) ⌝ }
+    ensures { λ r. ⌜ conversionOf r ≡ lengthOf (writeCall (now (table .entry)) (length (now (text .entry)))) ⌝ }
     ensures { λ _. ⌜ now (text .exit) ≡ bufferAfter (writeCall (now (table .entry)) (length (now (text .entry)))) (now (text .entry)) ⌝ }
 {
     let form = reader::form(table);
     match form {
-        reader::FormAnswer::Refused { fault, line } => ReadAnswer::Refused { fault, line },
+        reader::FormAnswer::Refused { fault, line } => Conversion::Refused { fault, line },
         reader::FormAnswer::Accepted {
             types,
             preds,
@@ -121,8 +121,8 @@ fn scratch() -> [u8; 3603] {
 }
 
 // Writes the text of a diagram from its table.
-pub fn write(table: &[u32], text: &mut [u8]) -> ReadAnswer
-    ensures { λ r. ⌜ readOf r ≡ lengthOf (writeCall (now (table .entry)) (length (now (text .entry)))) ⌝ }
+pub fn write(table: &[u32], text: &mut [u8]) -> Conversion
+    ensures { λ r. ⌜ conversionOf r ≡ lengthOf (writeCall (now (table .entry)) (length (now (text .entry)))) ⌝ }
     ensures { λ _. ⌜ now (text .exit) ≡ bufferAfter (writeCall (now (table .entry)) (length (now (text .entry)))) (now (text .entry)) ⌝ }
 {
     let mut bytes = scratch();

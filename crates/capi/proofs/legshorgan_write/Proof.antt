@@ -1,6 +1,6 @@
 -- `capi::legshorgan_write` meets its contract. The answer stored is that of the call.
 -- Assumes nothing.
-use Rattle.capi.proofs.Stored.{length-sent}
+use Rattle.capi.proofs.Stored.{conversion-sent}
 use borrow.Author.Needs.{needs}
 use Rattle.capi.proofs.legshorgan_write.Statement.{statement}
 use Rattle.capi.proofs.legshorgan_write.Tie as tie
@@ -12,4 +12,4 @@ legshorgan-write-spec =
     (λ c κs. search needs)
     (λ c κs. search needs)
     (λ c. search needs)
-    (λ c. search (needs, length-sent)))
+    (λ c. search (needs, conversion-sent)))

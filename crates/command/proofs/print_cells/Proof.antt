@@ -1,6 +1,6 @@
 -- `command::print_cells` meets its contract. What populating promises decides what is printed.
 -- Assumes nothing.
-use Rattle.command.proofs.Prints.{table-walkable, fill-faulty, fill-emptied, fill-short, cells-within, cells-count, fill-printed}
+use Rattle.command.proofs.Prints.{fill-refused, cells-within, cells-count, table-walkable, fill-printed}
 use borrow.Author.Needs.{needs}
 use Rattle.command.proofs.print_cells.Statement.{statement}
 use Rattle.command.proofs.print_cells.Tie as tie
@@ -12,25 +12,12 @@ print-cells-spec =
     (λ c κs. search needs)
     (λ c. search needs)
     (λ c κs. search needs)
-    (λ c κs. search needs)
     (λ c. search needs)
-    (λ c κs. search needs)
-    (λ c κs. search needs)
     (λ c. search needs)
-    (λ c κs. search needs)
-    (λ c. search needs)
+    (λ c. search (needs, fill-refused))
     (λ c. search (needs, cells-within))
     (λ c. search (needs, cells-count))
     (λ c κs. search (needs, table-walkable))
-    (λ c. search needs)
-    (λ c. search needs)
-    (λ c. search (needs, fill-faulty))
-    (λ c. search needs)
-    (λ c. search needs)
-    (λ c. search (needs, fill-emptied))
-    (λ c. search needs)
-    (λ c. search needs)
-    (λ c. search (needs, fill-short))
     (λ c. search needs)
     (λ c. search needs)
     (λ c. search (needs, fill-printed)))

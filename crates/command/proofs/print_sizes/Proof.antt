@@ -1,6 +1,6 @@
 -- `command::print_sizes` meets its contract. What the check promises decides what is printed.
 -- Assumes nothing.
-use Rattle.command.proofs.Prints.{check-faulty, check-emptied, check-short, check-settled, sizes-within, sizes-count}
+use Rattle.command.proofs.Prints.{check-refused, sizes-within, sizes-count, check-settled}
 use borrow.Author.Needs.{needs}
 use Rattle.command.proofs.print_sizes.Statement.{statement}
 use Rattle.command.proofs.print_sizes.Tie as tie
@@ -12,25 +12,13 @@ print-sizes-spec =
     (λ c κs. search needs)
     (λ c. search needs)
     (λ c κs. search needs)
-    (λ c κs. search needs)
     (λ c. search needs)
-    (λ c κs. search needs)
-    (λ c κs. search needs)
     (λ c. search needs)
-    (λ c κs. search needs)
-    (λ c. search needs)
+    (λ c. search (needs, check-refused))
     (λ c. search (needs, sizes-within))
     (λ c. search (needs, sizes-count))
     (λ c κs. search (needs, check-settled))
     (λ c. search needs)
-    (λ c. search needs)
-    (λ c. search (needs, check-faulty))
-    (λ c. search needs)
-    (λ c. search needs)
-    (λ c. search (needs, check-emptied))
-    (λ c. search needs)
-    (λ c. search needs)
-    (λ c. search (needs, check-short))
     (λ c. search needs)
     (λ c. search needs)
     (λ c. search needs))

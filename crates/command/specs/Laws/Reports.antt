@@ -16,9 +16,8 @@ use Rattle.orm.specs.Calls.{diagramIn, sizesBy, sizesOf, readCall}
 use Rattle.orm.specs.Program.{report, output, reported, program}
 use Rattle.reading.specs.Laws.{fits, does-not-fit, accepted-or-fault}
 use Rattle.guarantee.specs.Proof.{guarantee}
-use Rattle.populate.specs.Demand3.{TableMeans, TextOf}
-use Rattle.populate.specs.Tied.{demand-3}
-use Rattle.command.specs.Reports.{refusalLine, reportOn, textReport, tableReport, Read}
+use Rattle.populate.specs.Demand3.{TableOf, TextOf}
+use Rattle.command.specs.Reports.{refusalLine, reportOn, textReport, tableReport}
 
 -- ---- of a diagram, by the verdict of the rounds
 
@@ -43,18 +42,15 @@ module _ (d : Diagram) where
     unfolding output refusalLine
     large-report h = settled-so ∙ ap ended (does-not-fit 16000 (cells (population d c)) h)
 
--- ---- of a table that was read
+-- ---- of the table of a well-formed diagram
 
-module _ {t : List ℕ} (r : Read t) where
-  pub table-accepted : diagramIn tableLine t ≡ accepted (r .diagram)
-  table-accepted = guarantee .accepted-tables t (r .diagram) .1 (r .is, r .wellFormed)
+module _ {t : List ℕ} (x : TableOf t) where
+  pub table-accepted : diagramIn tableLine t ≡ accepted (x .diagram)
+  table-accepted = guarantee .accepted-tables t (x .diagram) .1 (x .same-table, x .wellFormed)
 
-  pub table-report : tableReport t ≡ output (reportOn (r .diagram))
+  pub table-report : tableReport t ≡ output (reportOn (x .diagram))
   unfolding tableReport
   table-report = ap (λ (o : Outcome Diagram). output (o >>= reportOn)) table-accepted
-
-  pub table-means : TableMeans t (r .diagram)
-  table-means = rw (r .is) (demand-3 .of-table (r .diagram) (r .wellFormed))
 
 -- ---- of a text
 

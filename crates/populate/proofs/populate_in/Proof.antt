@@ -1,6 +1,6 @@
 -- `populate::populate_in` meets its contract. What the check promises decides the answer.
 -- Assumes nothing.
-use Rattle.populate.proofs.Answers.{answer-faulty, answer-unsatisfiable, answer-short, sizes-valid, sizes-within, sizes-count, sizes-front, answer-cells}
+use Rattle.populate.proofs.Answers.{refused-on, sizes-within, sizes-count, sizes-settled}
 use borrow.Author.Needs.{needs}
 use Rattle.populate.proofs.populate_in.Statement.{statement}
 use Rattle.populate.proofs.populate_in.Tie as tie
@@ -12,17 +12,10 @@ populate-in-spec =
     (λ c κs. search needs)
     (λ c. search needs)
     (λ c. search needs)
-    (λ c. search needs)
-    (λ c. search needs)
+    (λ c. search (needs, refused-on))
     (λ c. search (needs, sizes-within))
     (λ c. search (needs, sizes-count))
-    (λ c κs. (search (needs, sizes-valid), search (needs, sizes-front)))
-    (λ c. search needs)
-    (λ c. search (needs, answer-faulty))
-    (λ c. search needs)
-    (λ c. search (needs, answer-unsatisfiable))
-    (λ c. search needs)
-    (λ c. search (needs, answer-short))
+    (λ c κs. search (needs, sizes-settled))
     (λ c. search needs)
     (λ c. search needs)
-    (λ c. search (needs, answer-cells)))
+    (λ c. search needs))

@@ -28,11 +28,8 @@ use Rattle.blocks.specs.Blocks.{blockLength, blockFits, membersAt, rowsA
 
 -- ---- the numbers stay small
 
-pub size-small : {k w : ℕ} → k < 4294967296 → w ≤ 999999 → k * w ≤ 4294967296000000
-size-small {k} {w} h g =
-    let l : k ≤ 4294967295 = omega arith in
-    let z : k * w ≤ 4294967295 * 999999 = mul-le-mul l g in
-    omega arith
+pub size-small : {k w : ℕ} → k < 4294967296 → w ≤ 999999 → k * w ≤ 4294967295 * 999999
+size-small {k} h g = let l : k ≤ 4294967295 = omega arith in mul-le-mul l g
 
 pub size-fits : {k w : ℕ} → k < 4294967296 → w ≤ 999999 → k * w < 18446744073709551616
 size-fits {k} {w} h g = omega (arith, size-small h g)

@@ -31,7 +31,7 @@ pub enum Extent {
 fn block_size(cells: &[u32], at: usize, width: usize) -> usize
     requires { ⌜ width ≤ 999999 ⌝ }
     ensures { λ r. ⌜ r ≡ getD (drop at (now (cells .entry))) 0 0 * width ⌝ }
-    ensures { λ r. ⌜ r ≤ 4294967296000000 ⌝ }
+    ensures { λ r. ⌜ r ≤ 4294967295 * 999999 ⌝ }
 {
     columns::index(columns::cell(cells, at, 0)) * width
 }
@@ -81,12 +81,12 @@ fn preds_end(t: &[u32], cells: &[u32], from: usize) -> End
     let mut left = table::pred_count(t);
     let mut at = from;
     while 0 < left {
-        let width = columns::index(table::field(t, pred, 2));
+        let width = columns::index(table::number(t, pred, 2));
         if !block_fits(cells, at, width) {
             return End::Short;
         }
         at = block_end(cells, at, width);
-        pred = table::pred_end(t, pred);
+        pred = table::next_pred(t, pred);
         left -= 1;
     }
     End::At(at)

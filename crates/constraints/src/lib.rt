@@ -3,7 +3,7 @@ use columns::Column;
 ghost use mathlib.Core.Path.{_≡_};
 ghost use mathlib.Core.Bool.{Bool};
 ghost use mathlib.Core.List.{map};
-ghost use Prim.Native.Nat.{_+_, _≤_, _<_};
+ghost use Prim.Native.Nat.{_+_, _*_, _≤_, _<_};
 ghost use lib.Dec.{eqb};
 ghost use lib.ListN.{length, getD, take, drop};
 ghost use Rattle.counting.specs.Lists.{column};
@@ -183,7 +183,7 @@ fn group_columns(t: &[u32], pred: usize, g: u32, out: &mut [u32]) -> usize
     requires { ⌜ Walkable (now t) ⌝ }
     requires { ⌜ length (now out) ≡ 6 ⌝ }
     requires { ⌜ predWidth (predOf (drop pred (now t))) ≤ 6 ⌝ }
-    requires { ⌜ pred ≤ 200000000 ⌝ }
+    requires { ⌜ pred + (4 + 3 * predWidth (predOf (drop pred (now t)))) ≤ length (now t) ⌝ }
     ensures { λ r. ⌜ take r (now (out .exit)) ≡ rolesInGroup g 0 (predAt (now (t .entry)) pred .roles) ⌝ }
     ensures { λ r. ⌜ r ≤ 6 ⌝ }
     ensures { λ r. ⌜ length (now (out .exit)) ≡ 6 ⌝ }
@@ -324,7 +324,7 @@ fn first_pred(k: u32, t: &[u32], cells: &[u32]) -> u32
             return own;
         }
         at = blocks::block_end(cells, at, blocks::width(t, pred));
-        pred = table::pred_end(t, pred);
+        pred = table::next_pred(t, pred);
         own += 1;
         left -= 1;
     }

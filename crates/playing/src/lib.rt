@@ -65,7 +65,7 @@ fn in_preds(t: &[u32], cells: &[u32], x: u32, number: u32) -> bool
             return true;
         }
         at = blocks::block_end(cells, at, blocks::width(t, pred));
-        pred = table::pred_end(t, pred);
+        pred = table::next_pred(t, pred);
         left -= 1;
     }
     false
@@ -205,7 +205,7 @@ fn mark_preds(
     while 0 < left {
         mark_roles(t, cells, number, pred, at, members, list, marks);
         at = blocks::block_end(cells, at, blocks::width(t, pred));
-        pred = table::pred_end(t, pred);
+        pred = table::next_pred(t, pred);
         left -= 1;
     }
 }

@@ -17,8 +17,8 @@ use Rattle.table.specs.Laws.Walks.{preds-more, preds-none, each-length}
 use Rattle.numerals.specs.Lines.{numbersFrom, keyed, keyedLines}
 use Rattle.report.specs.Printed.{typeLines, typesEnd, predBlock, predLines, sizeLines, cellLines, printed}
 
-pub product-small : (a b : ℕ) → a ≤ 4294967295 → b ≤ 999999 → a * b ≤ 4294967295000000
-product-small a b h k = omega (arith, mul-le-mul h k)
+pub product-small : (a b : ℕ) → a ≤ 4294967295 → b ≤ 999999 → a * b ≤ 4294967295 * 999999
+product-small a b h k = mul-le-mul h k
 
 -- ---- types
 

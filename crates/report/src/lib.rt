@@ -29,7 +29,7 @@ fn push_types(out: &mut [u8], at: usize, cells: &[u32], n: u32) -> usize
 fn types_end(cells: &[u32], n: u32) -> usize
     requires { ⌜ n ≤ 32 ⌝ }
     ensures { λ r. ⌜ r ≡ typesEnd n 0 (now (cells .entry)) ⌝ }
-    ensures { λ r. ⌜ r ≤ 200000000000 ⌝ }
+    ensures { λ r. ⌜ r ≤ 32 * 4294967296 ⌝ }
 {
     let mut left = n;
     let mut p = 0;
@@ -45,7 +45,7 @@ fn row_cells(size: usize, width: usize) -> usize
     requires { ⌜ size ≤ 4294967295 ⌝ }
     requires { ⌜ width ≤ 999999 ⌝ }
     ensures { λ r. ⌜ r ≡ size * width ⌝ }
-    ensures { λ r. ⌜ r ≤ 4294967295000000 ⌝ }
+    ensures { λ r. ⌜ r ≤ 4294967295 * 999999 ⌝ }
 {
     size * width
 }
@@ -69,7 +69,7 @@ fn push_pred(
 // All predicates; their cells start at `first`.
 fn push_preds(out: &mut [u8], at: usize, t: &[u32], cells: &[u32], first: usize) -> usize
     requires { ⌜ Walkable (now t) ⌝ }
-    requires { ⌜ first ≤ 200000000000 ⌝ }
+    requires { ⌜ first ≤ 32 * 4294967296 ⌝ }
     ensures { λ r. ⌜ Wrote (now (out .entry)) at (predLines 1 (diagramOf (now (t .entry)) .preds) (drop first (now (cells .entry)))) (now (out .exit)) r ⌝ }
 {
     let mut left = table::pred_count(t);
@@ -78,11 +78,11 @@ fn push_preds(out: &mut [u8], at: usize, t: &[u32], cells: &[u32], first: usize)
     let mut number = 1;
     let mut to = at;
     while 0 < left {
-        let width = table::index(table::field(t, q, 2));
+        let width = table::index(table::number(t, q, 2));
         let size = numerals::item(cells, p, 0);
         to = push_pred(out, to, number, cells, p + 1, width, size);
         p = p + (1 + row_cells(size, width));
-        q = table::pred_end(t, q);
+        q = table::next_pred(t, q);
         number += 1;
         left -= 1;
     }

@@ -1,9 +1,9 @@
 -- `constraints::first_pred` meets its contract. The lowest of the predicates left is the lowest of all.
 -- Assumes nothing.
-use Prim.Native.Nat.{_+_, _*_, _≤_}
+use Prim.Native.Nat.{_+_, _≤_}
 use Rattle.orm.specs.Constraints.{eachPred, firstFalse}
 use Rattle.table.specs.Positions.{diagramOf}
-use Rattle.blocks.specs.Standing.{Standing, standing-start, standing-here, standing-more}
+use Rattle.blocks.specs.Standing.{Standing, standing-start, standing-here, standing-inside, standing-more}
 use Rattle.constraints.specs.Tests.{predTest}
 use Rattle.constraints.proofs.Lowest.{PredsLeft, preds-start, preds-none-broken, preds-here, preds-next}
 use Rattle.playing.specs.Playing.{populationOf}
@@ -13,8 +13,7 @@ use Rattle.constraints.proofs.first_pred.Tie as tie
 
 abbrev Inv-loop : tie.InvT-loop
 Inv-loop k t cells pred₀ at₀ number₀ left₀ pred at number left =
-    (pred + 5000000 * left ≤ 200000000)
-    × (number + left ≤ 33)
+    (number + left ≤ 33)
     × Standing t cells pred at left
     × PredsLeft k t cells (populationOf t cells) (firstFalse 1 (eachPred (predTest k (populationOf t cells)) (diagramOf t .preds) (populationOf t cells .preds))) pred at number left
 
@@ -35,7 +34,7 @@ first-pred-spec =
     (λ c. search (needs, preds-here))
     (λ c κs. search needs)
     (λ c κs. search needs)
-    (λ c κs. search needs)
+    (λ c κs. search (needs, standing-inside))
     (λ c. search needs)
     (λ c. search needs)
     (λ c. search needs)

@@ -15,7 +15,7 @@ Inv-loop t pred g out₀ role₀ j₀ left₀ n₀ out role j left n =
     (length out ≡ 6)
     × (n ≤ j)
     × (j + left ≤ 6)
-    × (role + 3 * left ≤ 300000000)
+    × (role + 3 * left ≤ length t)
     × ColumnsLeft t g (rolesInGroup g 0 (predOf (drop pred t) .roles)) role j left n out
 
 abbrev μ-loop : tie.MeasureT-loop

@@ -1,7 +1,7 @@
 -- `constraints::groups_keep` meets its contract. The test of the groups left comes to the whole test.
 -- Assumes nothing.
 use Prim.Native.Nat.{_+_, _*_, _≤_}
-use lib.ListN.{drop}
+use lib.ListN.{length, drop}
 use Rattle.table.specs.Positions.{predOf}
 use Rattle.blocks.specs.Blocks.{predWidth, rowsAt}
 use Rattle.constraints.specs.Tests.{groupsTest}
@@ -12,8 +12,8 @@ use Rattle.constraints.proofs.groups_keep.Tie as tie
 
 abbrev Inv-loop : tie.InvT-loop
 Inv-loop t cells pred at line₀ g₀ left₀ line g left =
-    (line + 2 * left ≤ 300000000)
-    × (g + left ≤ 1000000)
+    (line + 2 * left ≤ length t)
+    × (g + left ≤ 1 + left₀)
     × GroupsLeft t (predOf (drop pred t) .roles) (rowsAt (predWidth (predOf (drop pred t))) (drop at cells)) (groupsTest 1 (predOf (drop pred t) .groups) (predOf (drop pred t) .roles) (rowsAt (predWidth (predOf (drop pred t))) (drop at cells))) line g left
 
 abbrev μ-loop : tie.MeasureT-loop

@@ -1,10 +1,9 @@
 -- `playing::in_preds` meets its contract. The search of the predicates left comes to the whole search.
 -- Assumes nothing.
-use Prim.Native.Nat.{_+_, _*_, _≤_}
 use lib.Dec.{eqb}
 use Rattle.counting.specs.Distinct.{member}
 use Rattle.table.specs.Positions.{diagramOf}
-use Rattle.blocks.specs.Standing.{Standing, standing-start, standing-here, standing-more}
+use Rattle.blocks.specs.Standing.{Standing, standing-start, standing-here, standing-inside, standing-more}
 use Rattle.playing.specs.Playing.{playedBy, populationOf}
 use Rattle.playing.proofs.Searched.{InPredsLeft, in-preds-start, in-preds-none, in-preds-here, in-preds-more}
 use borrow.Author.Needs.{needs}
@@ -13,8 +12,7 @@ use Rattle.playing.proofs.in_preds.Tie as tie
 
 abbrev Inv-loop : tie.InvT-loop
 Inv-loop t cells x number pred₀ at₀ left₀ pred at left =
-    (pred + 5000000 * left ≤ 200000000)
-    × Standing t cells pred at left
+    Standing t cells pred at left
     × InPredsLeft t cells x number (member eqb x (playedBy (diagramOf t) (populationOf t cells) number)) pred at left
 
 abbrev μ-loop : tie.MeasureT-loop
@@ -34,7 +32,7 @@ in-preds-spec =
     (λ c. search (needs, in-preds-here))
     (λ c κs. search needs)
     (λ c κs. search needs)
-    (λ c κs. search needs)
+    (λ c κs. search (needs, standing-inside))
     (λ c. search needs)
     (λ c. search needs)
     (λ c. search (needs, in-preds-more, standing-more))

@@ -2,7 +2,7 @@
 -- Assumes nothing.
 use Prim.Native.Nat.{_+_, _*_, _≤_}
 use mathlib.Core.Path.{_≡_}
-use lib.ListN.{drop}
+use lib.ListN.{length, drop}
 use Rattle.table.specs.Positions.{predOf}
 use Rattle.blocks.specs.Blocks.{predWidth, rowsAt}
 use Rattle.blocks.specs.Standing.{column-reached}
@@ -15,7 +15,7 @@ use Rattle.playing.proofs.in_roles.Tie as tie
 abbrev Inv-loop : tie.InvT-loop
 Inv-loop t cells x number pred at w role₀ j₀ left₀ role j left =
     (j + left ≡ w)
-    × (role + 3 * left ≤ 300000000)
+    × (role + 3 * left ≤ length t)
     × InRolesLeft t cells x number (predWidth (predOf (drop pred t))) at (inRoles x number 0 (predOf (drop pred t) .roles) (rowsAt (predWidth (predOf (drop pred t))) (drop at cells))) role j left
 
 abbrev μ-loop : tie.MeasureT-loop

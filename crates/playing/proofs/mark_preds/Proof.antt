@@ -1,8 +1,7 @@
 -- `playing::mark_preds` meets its contract. Those marked and those of the predicates left come to all.
 -- Assumes nothing.
-use Prim.Native.Nat.{_+_, _*_, _≤_}
 use Rattle.columns.specs.Values.{valuesIn}
-use Rattle.blocks.specs.Standing.{Standing, standing-start, standing-here, standing-more}
+use Rattle.blocks.specs.Standing.{Standing, standing-start, standing-here, standing-inside, standing-more}
 use Rattle.playing.specs.Marks.{Ready}
 use Rattle.playing.proofs.Marking.{PredsLeft, still-ready, same-ready, preds-start, preds-mark, preds-marked}
 use borrow.Author.Needs.{needs}
@@ -11,8 +10,7 @@ use Rattle.playing.proofs.mark_preds.Tie as tie
 
 abbrev Inv-loop : tie.InvT-loop
 Inv-loop t cells number members list marks₀ pred₀ at₀ left₀ marks pred at left =
-    (pred + 5000000 * left ≤ 200000000)
-    × Standing t cells pred at left
+    Standing t cells pred at left
     × Ready cells members list marks
     × PredsLeft (valuesIn cells members) marks₀ marks t cells number pred at left
 
@@ -32,7 +30,7 @@ mark-preds-spec =
     (λ c κs. (search needs, (search needs, search (needs, standing-here))))
     (λ c κs. search needs)
     (λ c κs. search needs)
-    (λ c κs. search needs)
+    (λ c κs. (search needs, search (needs, standing-inside)))
     (λ c. search needs)
     (λ c. search needs)
     (λ c. search (needs, preds-mark, still-ready, standing-more))

@@ -2,6 +2,7 @@
 -- Assumes nothing.
 use Prim.Native.Nat.{_+_, _*_, _≤_}
 use mathlib.Core.Path.{_≡_}
+use lib.ListN.{length}
 use Rattle.columns.specs.Values.{valuesIn}
 use Rattle.blocks.specs.Standing.{column-reached}
 use Rattle.playing.specs.Marks.{Ready}
@@ -13,7 +14,7 @@ use Rattle.playing.proofs.mark_roles.Tie as tie
 abbrev Inv-loop : tie.InvT-loop
 Inv-loop t cells number pred at members list marks₀ w role₀ j₀ left₀ marks role j left =
     (j + left ≡ w)
-    × (role + 3 * left ≤ 300000000)
+    × (role + 3 * left ≤ length t)
     × Ready cells members list marks
     × RolesLeft (valuesIn cells members) marks₀ marks t cells number pred at role j left
 

@@ -9,7 +9,7 @@ use Rattle.report.proofs.types_end.Statement.{statement}
 use Rattle.report.proofs.types_end.Tie as tie
 
 abbrev Inv-loop : tie.InvT-loop
-Inv-loop cells n left₀ p₀ left p = (p + 4294967296 * left ≤ 137438953472) × (typesEnd left p cells ≡ typesEnd n 0 cells)
+Inv-loop cells n left₀ p₀ left p = (p + 4294967296 * left ≤ 32 * 4294967296) × (typesEnd left p cells ≡ typesEnd n 0 cells)
 
 abbrev μ-loop : tie.MeasureT-loop
 μ-loop cells n left₀ p₀ left p = left

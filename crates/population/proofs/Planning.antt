@@ -11,7 +11,7 @@ use Rattle.buffer.specs.Written.{Wrote}
 use Rattle.buffer.specs.Laws.{wrote-as, wrote-front, wrote-within}
 use Rattle.table.specs.Cursors.{placedAt}
 use Rattle.table.specs.declared.Cursor.{Cursor}
-use Rattle.tuples.specs.Steps.{padded, steps, Small, Bounded}
+use Rattle.tuples.specs.Steps.{padded, steps, Small}
 use Rattle.tuples.specs.StepsLaws.{padded-front}
 use Rattle.tuples.specs.Nested.{stepsOfEach}
 use Rattle.population.specs.Plan.{order, counts, owns, sizesOf, Wants, Listed, Few, Ordered, Opened, Owned}
@@ -32,9 +32,6 @@ sizes-small c sets h = record { at = map-small (size c) sets (λ s. h .at s) }
 
 padded-all : (xs : List ℕ) → padded (length xs) xs ≡ xs
 padded-all xs = sym (ap (padded (length xs)) (append-nil xs)) ∙ padded-front xs []
-
-pub few-bounded : (sizes : List ℕ) → length sizes ≤ 12 → Bounded 0 (length sizes)
-few-bounded sizes h = record { from = omega arith; few = omega arith }
 
 pub rows-planned : (c : List ℕ) (own : ℕ) (sizes : List ℕ) {o o′ : List ℕ} {at to want : ℕ} → want ≡ getD c own 0
     → Wrote o at (steps want (padded (length sizes) (drop 0 sizes))) o′ to → Wrote o at (steps (getD c own 0) sizes) o′ to

@@ -28,7 +28,7 @@ column-small columns i u = u .at i
 pub member-is : (flat : List ℕ) (place : ℕ) {i r : ℕ} → i ≡ place → r ≡ getD (drop 0 flat) i 0 → r ≡ getD flat place 0
 member-is flat place ei er = er ∙ ap (λ (n : ℕ). getD flat n 0) ei
 
-pub member-small : (flat : List ℕ) (i : ℕ) {r : ℕ} → Under 2000000 flat → r ≡ getD (drop 0 flat) i 0 → r ≤ 2000000
+pub member-small : (flat : List ℕ) (i : ℕ) {r : ℕ} → Under 16384 flat → r ≡ getD (drop 0 flat) i 0 → r ≤ 16384
 member-small flat i u e = rw e (u .at i)
 
 pub cell-is : (flat s : List ℕ) {v n k m j r : ℕ} → v ≡ getD s 0 0 → n ≡ getD s 1 0 → k ≡ getD s 2 0 → m ≡ getD s 3 0 → j ≡ getD flat m 0
@@ -43,7 +43,7 @@ row-more flat columns p n h e = record { is = each-more (cellOf flat) 4 columns 
 pub row-none : (flat columns : List ℕ) (p n : ℕ) → n ≤ 0 → each (cellOf flat) 4 n (drop p columns) ≡ []
 row-none flat columns p n h = each-none (cellOf flat) 4 n (drop p columns) h
 
--- ---- indices are small
+-- ---- indices are small: a row's is at most 4096, and a pairing at most doubles it, for the parts of the row and for the roles of a part
 
 under-weaken : {b b′ : ℕ} {xs : List ℕ} → b ≤ b′ → Under b xs → Under b′ xs
 under-weaken h u = record { at = λ k. omega (arith, u .at k) }
@@ -57,9 +57,9 @@ tuple-under s (suc (suc k)) i =
     (under-weaken (omega (arith, index-small s (suc k) i)) (tuple-under s (suc k) (indexBefore s (suc k) i)))
     (under-cons (entry-small s (suc k) i) (under-nil (2 * i)))
 
-tuples-under : (s ks is : List ℕ) → Under 1000000 is → Under 2000000 (tuplesIn s ks is)
+tuples-under : (s ks is : List ℕ) → Under 8192 is → Under 16384 (tuplesIn s ks is)
 unfolding tuplesIn
-tuples-under s ks [] u = under-nil 2000000
+tuples-under s ks [] u = under-nil 16384
 tuples-under s ks (i ∷ is) u =
     under-append (tupleIn s (getD ks 0 0) i) (tuplesIn (drop (3 * getD ks 0 0) s) (drop 1 ks) is)
     (under-weaken (omega (arith, u .at 0)) (tuple-under s (getD ks 0 0) i))
@@ -75,7 +75,7 @@ module _ {inner ks rows : List ℕ} (r : Room inner ks rows) where
   room-indices = record { at = λ k. omega (arith, r .indices k) }
 
   pub room-roomy : {s : List ℕ} → length s ≡ 6 → Roomy inner ks rows s
-  room-roomy room = record { few = omega (arith, r .few); counted = r .each-counted; there = r .there; room = omega (arith, r .enough, room) }
+  room-roomy room = record { counted = r .each-counted; there = r .there; room = omega (arith, r .enough, room) }
 
   module _ {s s′ : List ℕ} {n : ℕ} (room : length s ≡ 6) (w : Stored s 0 (tuplesIn inner ks rows) s′)
       (en : n ≡ length (tuplesIn inner ks rows)) where
@@ -85,8 +85,8 @@ module _ {inner ks rows : List ℕ} (r : Room inner ks rows) where
     pub flat-within : n ≤ length s′
     flat-within = omega (arith, en, r .enough, room, stored-long w)
 
-    pub flat-small : Under 2000000 (take n s′)
-    flat-small = rw flat-front (tuples-under inner ks rows (record { at = λ k. omega (arith, r .indices k) }))
+    pub flat-small : Under 16384 (take n s′)
+    flat-small = rw flat-front (tuples-under inner ks rows (record { at = r .indices }))
 
     pub row-of : (columns : List ℕ) (count : ℕ) {o o′ : List ℕ} {at to : ℕ} → Wrote o at (each (cellOf (take n s′)) 4 count columns) o′ to
         → Wrote o at (each (cellOf (tuplesIn inner ks rows)) 4 count columns) o′ to
@@ -101,8 +101,6 @@ module _ {count : ℕ} {columns outer ks inner : List ℕ} (p : Planned count co
 
   pub planned-spanned : {s : List ℕ} → length s ≡ 12 → Spanned outer 0 (length ks) s 0
   planned-spanned room = record {
-    bounded = record { from = omega arith; few = omega (arith, p .few) };
-    low = omega arith;
     there = omega (arith, p .stepped);
     room = omega (arith, p .few, room);
   }
@@ -117,7 +115,6 @@ module _ {count : ℕ} {columns outer ks inner : List ℕ} (p : Planned count co
 
     pub rows-room : i ≤ 4096 → Room inner ks (take (length ks) s′)
     rows-room h = rw rows-front (record {
-      few = omega (arith, p .few, length-tupleIn outer (length ks) i);
       each-counted = omega (arith, length-tupleIn outer (length ks) i);
       there = p .there i;
       counted = p .counted;

@@ -91,7 +91,6 @@ pub record Wants (wants ks : List ℕ) : Type 0 where
 
 -- Rows of parts, with a count and the steps of each, and room for all their indices
 pub record Room (inner ks rows : List ℕ) : Type 0 where
-  pub few : length rows ≤ 12
   pub each-counted : length rows ≤ length ks
   pub there : 3 * length (tuplesIn inner ks rows) ≤ length inner
   pub counted : Small ks

@@ -22,9 +22,9 @@ fn column_item(columns: &[u32], p: usize, i: usize) -> u32
 }
 
 fn member(flat: &[u32], place: u32) -> u32
-    requires { ⌜ Under 2000000 (now flat) ⌝ }
+    requires { ⌜ Under 16384 (now flat) ⌝ }
     ensures { λ r. ⌜ r ≡ getD (now (flat .entry)) place 0 ⌝ }
-    ensures { λ r. ⌜ r ≤ 2000000 ⌝ }
+    ensures { λ r. ⌜ r ≤ 16384 ⌝ }
 {
     tuples::item(flat, 0, table::index(place))
 }
@@ -33,7 +33,7 @@ fn member(flat: &[u32], place: u32) -> u32
 fn cell(columns: &[u32], p: usize, flat: &[u32]) -> u32
     requires { ⌜ Under 999999 (now columns) ⌝ }
     requires { ⌜ p + 4 ≤ length (now columns) ⌝ }
-    requires { ⌜ Under 2000000 (now flat) ⌝ }
+    requires { ⌜ Under 16384 (now flat) ⌝ }
     ensures { λ r. ⌜ r ≡ cellOf (now (flat .entry)) (drop p (now (columns .entry))) ⌝ }
 {
     let first = column_item(columns, p, 0);
@@ -47,7 +47,7 @@ fn cell(columns: &[u32], p: usize, flat: &[u32]) -> u32
 fn push_cells(columns: &[u32], count: u32, flat: &[u32], out: &mut [u32], at: usize) -> usize
     requires { ⌜ Under 999999 (now columns) ⌝ }
     requires { ⌜ 4 * count ≤ length (now columns) ⌝ }
-    requires { ⌜ Under 2000000 (now flat) ⌝ }
+    requires { ⌜ Under 16384 (now flat) ⌝ }
     ensures { λ r. ⌜ Wrote (now (out .entry)) at (each (cellOf (now (flat .entry))) 4 count (now (columns .entry))) (now (out .exit)) r ⌝ }
 {
     let mut left = count;
@@ -75,7 +75,7 @@ fn store(out: &mut [u32], at: usize, x: u32) -> usize
 fn store_cells(columns: &[u32], count: u32, flat: &[u32], out: &mut [u32], at: usize) -> usize
     requires { ⌜ Under 999999 (now columns) ⌝ }
     requires { ⌜ 4 * count ≤ length (now columns) ⌝ }
-    requires { ⌜ Under 2000000 (now flat) ⌝ }
+    requires { ⌜ Under 16384 (now flat) ⌝ }
     requires { ⌜ count ≤ length (now out) - at ⌝ }
     ensures { λ r. ⌜ Wrote (now (out .entry)) at (each (cellOf (now (flat .entry))) 4 count (now (columns .entry))) (now (out .exit)) r ⌝ }
 {
@@ -101,7 +101,7 @@ fn room(length: usize, at: usize) -> usize
 fn push_row(columns: &[u32], count: u32, flat: &[u32], out: &mut [u32], at: usize) -> usize
     requires { ⌜ Under 999999 (now columns) ⌝ }
     requires { ⌜ 4 * count ≤ length (now columns) ⌝ }
-    requires { ⌜ Under 2000000 (now flat) ⌝ }
+    requires { ⌜ Under 16384 (now flat) ⌝ }
     ensures { λ r. ⌜ Wrote (now (out .entry)) at (each (cellOf (now (flat .entry))) 4 count (now (columns .entry))) (now (out .exit)) r ⌝ }
 {
     if room(out.len(), at) < table::index(count) {

@@ -52,7 +52,7 @@ lcm-is a b eg er = er ∙ ap (λ (n : ℕ). (a * b) / n) eg
 pub product-fits : (a b : ℕ) → a ≤ 4096 → b ≤ 4096 → Fits w32 (a * b)
 product-fits a b h k = record { fits = omega (arith, mul-le-mul h k) }
 
-pub shift-fits : (i k : ℕ) {q : ℕ} → i ≤ 1000000 → q ≡ i / k → Fits w32 (i + q)
+pub shift-fits : (i k : ℕ) {q : ℕ} → 2 * i < 4294967296 → q ≡ i / k → Fits w32 (i + q)
 shift-fits i k h e = record { fits = omega (arith, e, div-le-self i k) }
 
 -- ---- one number of a list

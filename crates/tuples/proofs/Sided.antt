@@ -1,4 +1,4 @@
--- Pairings side by side: the numbers that their loops pass stay small, and what is stored so far.
+-- Pairings side by side: the counts that their loops pass, and what is stored so far.
 use Prim.Native.Nat.{ℕ, _+_, _*_, _≤_, _<_}
 use native.Mathlib.Omega.{arith}
 use mathlib.Core.Path.{_≡_, refl, sym, ap, _∙_}
@@ -20,7 +20,7 @@ want-small ws i h = h .at i
 pub count-fits : (ks : List ℕ) (i : ℕ) {k : ℕ} → Small ks → k ≡ getD ks i 0 → k ≤ 4096
 count-fits ks i h e = rw e (h .at i)
 
-pub index-fits : (is : List ℕ) (n : ℕ) → Indices is → getD is n 0 ≤ 1000000
+pub index-fits : (is : List ℕ) (n : ℕ) → Indices is → 2 * getD is n 0 < 4294967296
 index-fits is n h = h .at n
 
 -- the steps stand at three times the index at which the row goes
@@ -52,11 +52,9 @@ module _ (s ks is : List ℕ) (n to : ℕ) {m : ℕ} (h : n < length is) (em : m
   pub sided-count : {total : ℕ} → to + length rest ≡ total → (to + m) + length left ≡ total
   sided-count e = omega (arith, e, parts)
 
-  pub sided-spanned : {o whole o′ : List ℕ} {at : ℕ} → Roomy s ks is o → m ≤ 4096 → to ≤ 4096 * n → to + length rest ≡ length (tuplesIn s ks is)
+  pub sided-spanned : {o whole o′ : List ℕ} {at : ℕ} → Roomy s ks is o → to + length rest ≡ length (tuplesIn s ks is)
       → Storing o at whole o′ to rest → Spanned s (3 * to) m o′ to
-  sided-spanned r k l e w = record {
-    bounded = record { from = omega (arith, r .few); few = omega arith };
-    low = omega (arith, r .few);
+  sided-spanned r e w = record {
     there = omega (arith, r .there, e, parts);
     room = omega (arith, r .room, e, parts, storing-long w);
   }

@@ -21,13 +21,12 @@ unfoldable pub tuplesIn : List ℕ → List ℕ → List ℕ → List ℕ
 tuplesIn s ks [] = []
 tuplesIn s ks (i ∷ is) = tupleIn s (getD ks 0 0) i ++ tuplesIn (drop (3 * getD ks 0 0) s) (drop 1 ks) is
 
--- Numbers of rows
+-- Numbers of rows, of which twice each is a number of 32 bits
 pub record Indices (is : List ℕ) : Type 0 where
-  pub at : (k : ℕ) → getD is k 0 ≤ 1000000
+  pub at : (k : ℕ) → 2 * getD is k 0 < 4294967296
 
 -- A count for each row, the steps of all pairings, and room for a row of each
 pub record Roomy (s ks is out : List ℕ) : Type 0 where
-  pub few : length is ≤ 50
   pub counted : length is ≤ length ks
   pub there : 3 * length (tuplesIn s ks is) ≤ length s
   pub room : length (tuplesIn s ks is) ≤ length out

@@ -42,14 +42,7 @@ pub record Below (x n common size : ℕ) (b : Bool) : Type 0 where
 pub record Small (xs : List ℕ) : Type 0 where
   pub at : (k : ℕ) → getD xs k 0 ≤ 4096
 
--- Numbers that a loop over some sets starts from: the position of the first, and how many
-pub record Bounded (at count : ℕ) : Type 0 where
-  pub from : at ≤ 1000000
-  pub few : count ≤ 1000000
-
 -- The steps of `count` sets stand from `at` on, and there is room for a row of them from `to` on
 pub record Spanned (steps : List ℕ) (at count : ℕ) (out : List ℕ) (to : ℕ) : Type 0 where
-  pub bounded : Bounded at count
-  pub low : to ≤ 1000000
   pub there : at + 3 * count ≤ length steps
   pub room : to + count ≤ length out

@@ -7,13 +7,13 @@ ghost use Prim.Native.Nat.{_+_, _*_, _/_, _%_, _≤_, _<_, min};
 ghost use lib.ListN.{length, getD, drop, set};
 ghost use Rattle.buffer.specs.Written.{Wrote};
 ghost use Rattle.pairing.specs.Pairing.{gcd, lcm};
-ghost use Rattle.tuples.specs.Steps.{padded, stepsFrom, steps, entryAt, indexBefore, tupleIn, Small, Bounded, Below, Spanned};
+ghost use Rattle.tuples.specs.Steps.{padded, stepsFrom, steps, entryAt, indexBefore, tupleIn, Small, Below, Spanned};
 ghost use Rattle.tuples.specs.Stored.{Stored};
 ghost use Rattle.tuples.specs.Nested.{stepsOfEach, tuplesIn, Indices, Roomy};
 
 // A quotient by 0 is 0, a remainder by 0 the number itself. Most numbers are below the divisor, and
 // a test is quicker than a division.
-pub fn quotient(x: u32, k: u32) -> u32
+fn quotient(x: u32, k: u32) -> u32
     ensures { λ r. ⌜ r ≡ x / k ⌝ }
 {
     if x < k {
@@ -33,7 +33,7 @@ pub fn remainder(x: u32, k: u32) -> u32
 }
 
 // Euclid's algorithm.
-pub fn gcd(a: u32, b: u32) -> u32
+fn gcd(a: u32, b: u32) -> u32
     ensures { λ r. ⌜ r ≡ gcd a b ⌝ }
 {
     let mut x = a;
@@ -46,7 +46,7 @@ pub fn gcd(a: u32, b: u32) -> u32
     x
 }
 
-pub fn lcm(a: u32, b: u32) -> u32
+fn lcm(a: u32, b: u32) -> u32
     requires { ⌜ a ≤ 4096 ⌝ }
     requires { ⌜ b ≤ 4096 ⌝ }
     ensures { λ r. ⌜ r ≡ lcm a b ⌝ }
@@ -99,7 +99,7 @@ fn push_steps(
     requires { ⌜ Small (now sizes) ⌝ }
     requires { ⌜ want ≤ 4096 ⌝ }
     requires { ⌜ n ≤ 4096 ⌝ }
-    requires { ⌜ at + count ≤ 3000000 ⌝ }
+    requires { ⌜ at + count < 18446744073709551616 ⌝ }
     ensures { λ r. ⌜ Wrote (now (out .entry)) to (stepsFrom want n (padded count (drop at (now (sizes .entry))))) (now (out .exit)) r ⌝ }
 {
     let mut left = count;
@@ -127,7 +127,7 @@ pub fn prepare(
 ) -> usize
     requires { ⌜ Small (now sizes) ⌝ }
     requires { ⌜ want ≤ 4096 ⌝ }
-    requires { ⌜ Bounded at count ⌝ }
+    requires { ⌜ at + count < 18446744073709551616 ⌝ }
     ensures { λ r. ⌜ Wrote (now (out .entry)) to (steps want (padded count (drop at (now (sizes .entry))))) (now (out .exit)) r ⌝ }
 {
     if count == 0 {
@@ -151,7 +151,7 @@ fn below(x: u32, n: u32, common: u32, size: u32) -> bool
 // Of row x, stores the index in the set of a step, and gives the row's index in the n tuples that
 // the step pairs.
 fn store_entry(x: u32, n: u32, common: u32, size: u32, out: &mut [u32], q: usize) -> u32
-    requires { ⌜ x ≤ 1000000 ⌝ }
+    requires { ⌜ 2 * x < 4294967296 ⌝ }
     requires { ⌜ q < length (now out) ⌝ }
     ensures { λ _. ⌜ now (out .exit) ≡ set (now (out .entry)) q ((x + x / common) % size) ⌝ }
     ensures { λ r. ⌜ r ≡ x % n ⌝ }
@@ -165,10 +165,10 @@ fn store_entry(x: u32, n: u32, common: u32, size: u32, out: &mut [u32], q: usize
     remainder(x, n)
 }
 
-// The same of the step at p.
+// The entry and the index before it, of the step at p.
 fn step(steps: &[u32], p: usize, x: u32, out: &mut [u32], q: usize) -> u32
     requires { ⌜ p + 3 ≤ length (now steps) ⌝ }
-    requires { ⌜ x ≤ 1000000 ⌝ }
+    requires { ⌜ 2 * x < 4294967296 ⌝ }
     requires { ⌜ q < length (now out) ⌝ }
     ensures { λ _. ⌜ now (out .exit) ≡ set (now (out .entry)) q (entryAt (drop p (now (steps .entry))) 0 x) ⌝ }
     ensures { λ r. ⌜ r ≡ indexBefore (drop p (now (steps .entry))) 0 x ⌝ }
@@ -180,7 +180,7 @@ fn step(steps: &[u32], p: usize, x: u32, out: &mut [u32], q: usize) -> u32
 // Stores row i of a prepared pairing of `count` sets, whose steps stand from `at` on.
 pub fn tuple(steps: &[u32], at: usize, count: usize, i: u32, out: &mut [u32], to: usize)
     requires { ⌜ Spanned (now steps) at count (now out) to ⌝ }
-    requires { ⌜ i ≤ 1000000 ⌝ }
+    requires { ⌜ 2 * i < 4294967296 ⌝ }
     ensures { λ _. ⌜ Stored (now (out .entry)) to (tupleIn (drop at (now (steps .entry))) count i) (now (out .exit)) ⌝ }
 {
     if count == 0 {
@@ -201,7 +201,7 @@ fn index(x: u32) -> usize
     x as usize
 }
 
-// A small number as an index.
+// The count at i; 0 past the end.
 fn count_at(counts: &[u32], i: usize) -> usize
     requires { ⌜ Small (now counts) ⌝ }
     ensures { λ r. ⌜ r ≡ getD (drop i (now (counts .entry))) 0 0 ⌝ }
@@ -210,7 +210,7 @@ fn count_at(counts: &[u32], i: usize) -> usize
     item(counts, i, 0) as usize
 }
 
-// The same where there is such a count.
+// The count at i, where there is one.
 fn count_of(counts: &[u32], i: usize) -> usize
     requires { ⌜ Small (now counts) ⌝ }
     requires { ⌜ i < length (now counts) ⌝ }

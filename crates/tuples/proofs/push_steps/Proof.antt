@@ -1,6 +1,6 @@
 -- `tuples::push_steps` meets its contract. The steps of the sets left come to the whole.
 -- Assumes nothing.
-use Prim.Native.Nat.{_+_, _≤_}
+use Prim.Native.Nat.{_+_, _≤_, _<_}
 use lib.ListN.{drop}
 use Rattle.buffer.specs.Written.{Writing}
 use Rattle.buffer.specs.Laws.{writing-start, writing-more, writing-all, writing-long}
@@ -11,7 +11,7 @@ use Rattle.tuples.proofs.push_steps.Statement.{statement}
 use Rattle.tuples.proofs.push_steps.Tie as tie
 
 abbrev Inv-loop : tie.InvT-loop
-Inv-loop want n sizes at count out₀ to left₀ p₀ tuples₀ end₀ out left p tuples end = (p + left ≤ 3000000) × (tuples ≤ 4096) × Writing out₀ to
+Inv-loop want n sizes at count out₀ to left₀ p₀ tuples₀ end₀ out left p tuples end = (p + left < 18446744073709551616) × (tuples ≤ 4096) × Writing out₀ to
     (stepsFrom want n (padded count (drop at sizes))) out end (stepsFrom want tuples (padded left (drop p sizes)))
 
 abbrev μ-loop : tie.MeasureT-loop

@@ -12,7 +12,7 @@ use Rattle.tuples.proofs.tuple_each.Tie as tie
 
 abbrev Inv-loop : tie.InvT-loop
 Inv-loop steps counts rows out₀ n₀ to₀ out n to =
-    (n ≤ length rows) × (to ≤ 4096 * n) ×
+    (n ≤ length rows) ×
     Storing out₀ 0 (tuplesIn steps counts rows) out to (tuplesIn (drop (3 * to) steps) (drop n counts) (drop n rows)) ×
     (to + length (tuplesIn (drop (3 * to) steps) (drop n counts) (drop n rows)) ≡ length (tuplesIn steps counts rows))
 

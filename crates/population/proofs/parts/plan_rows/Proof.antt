@@ -1,6 +1,6 @@
 -- `population::parts::plan_rows` meets its contract. All of the sizes.
 -- Assumes nothing.
-use Rattle.population.proofs.Planning.{few-bounded, rows-planned}
+use Rattle.population.proofs.Planning.{rows-planned}
 use borrow.Author.Needs.{needs}
 use Rattle.population.proofs.parts.plan_rows.Statement.{statement}
 use Rattle.population.proofs.parts.plan_rows.Tie as tie
@@ -10,6 +10,6 @@ plan-rows-spec =
     tie.close
     (tie.spec
     (λ c κs. search needs)
-    (λ c κs. (search needs, (search needs, search (needs, few-bounded))))
+    (λ c κs. (search needs, (search needs, search needs)))
     (λ c. search needs)
     (λ c. search (needs, rows-planned)))

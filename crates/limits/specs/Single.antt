@@ -22,8 +22,8 @@ pub record Counted (t : List ℕ) (roles groups : ℕ) : Type 0 where
   pub roles-are : roles ≡ length (allRoles (diagramOf t))
   pub groups-are : groups ≡ length (allGroups (diagramOf t))
 
--- The types of all roles, and the set of the first role
+-- The types of all roles, and the set of the first role, among the sets of types, predicates and roles
 pub record Played (t types : List ℕ) (first : ℕ) : Type 0 where
   pub known : Types t types
   pub starts : first ≡ firstRole (diagramOf t)
-  pub small : first + length types ≤ 300000000
+  pub small : first + length types ≤ 160

@@ -6,7 +6,7 @@ use crate::single::unary;
 ghost use mathlib.Core.Path.{_≡_};
 ghost use mathlib.Core.List.{[], _∷_, flatMap, flatten};
 ghost use Prim.Native.Nat.{_+_, _-_, _≤_};
-ghost use lib.ListN.{length, drop};
+ghost use lib.ListN.{length, getD, drop};
 ghost use Rattle.counting.specs.Lists.{mapFrom};
 ghost use Rattle.orm.specs.Diagram.{allRoles};
 ghost use Rattle.orm.specs.Form.{roleOf, groupOf};
@@ -20,7 +20,7 @@ ghost use Rattle.limits.specs.Single.{limitOfGroup};
 
 // The set of the group with this number.
 fn group_set(x: table::Cursor, number: u32) -> u32
-    requires { ⌜ x .groups ≤ 99000000 ⌝ }
+    requires { ⌜ x .groups ≤ 208 ⌝ }
     requires { ⌜ number ≤ 999999 ⌝ }
     ensures { λ r. ⌜ r ≡ x .groups + (number - 1) ⌝ }
 {
@@ -49,7 +49,7 @@ fn push_role(t: &[u32], x: table::Cursor, p: u32, q: usize, out: &mut [u32], at:
 fn push_product(t: &[u32], x: table::Cursor, number: u32, out: &mut [u32], at: usize) -> usize
     requires { ⌜ Walkable (now t) ⌝ }
     requires { ⌜ Here (now t) x ⌝ }
-    requires { ⌜ number ≤ 999999 ⌝ }
+    requires { ⌜ number ≤ getD (drop (x .at) (now t)) 3 0 ⌝ }
     ensures { λ r. ⌜ Wrote (now (out .entry)) at (encode (limitOfGroup (placedAt (now (t .entry)) x) number ∷ [])) (now (out .exit)) r ⌝ }
 {
     let a = header(
@@ -74,7 +74,7 @@ fn push_group(
 ) -> usize
     requires { ⌜ Walkable (now t) ⌝ }
     requires { ⌜ Here (now t) x ⌝ }
-    requires { ⌜ number ≤ 999999 ⌝ }
+    requires { ⌜ number ≤ getD (drop (x .at) (now t)) 3 0 ⌝ }
     requires { ⌜ q + 2 ≤ length (now t) ⌝ }
     ensures { λ r.
         ⌜ Wrote (now (out .entry)) at (encode (limitsOfGroup (placedAt (now (t .entry)) x) number (groupOf (drop q (now (t .entry))))))
@@ -161,7 +161,6 @@ fn push_pred(t: &[u32], x: table::Cursor, out: &mut [u32], at: usize) -> usize
 pub fn push_preds(t: &[u32], roles: u32, out: &mut [u32], at: usize) -> usize
     requires { ⌜ Walkable (now t) ⌝ }
     requires { ⌜ roles ≡ length (allRoles (diagramOf (now t))) ⌝ }
-    requires { ⌜ roles ≤ 96 ⌝ }
     ensures { λ r.
         ⌜ Wrote (now (out .entry)) at (encode (flatMap limitsOfPred (placed (diagramOf (now (t .entry)))))) (now (out .exit)) r ⌝ }
 {

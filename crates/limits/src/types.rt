@@ -16,7 +16,7 @@ ghost use Rattle.limits.specs.Single.{limitOfTypes, Played};
 // The sum of the roles that the type with the set a plays, as its limit; `types` are those of all
 // roles, and `first` is the first role's set.
 fn push_sum(types: &[u32], first: u32, a: u32, out: &mut [u32], at: usize) -> usize
-    requires { ⌜ first + length (now types) ≤ 300000000 ⌝ }
+    requires { ⌜ first + length (now types) ≤ 160 ⌝ }
     requires { ⌜ a ≤ 32 ⌝ }
     ensures { λ r. ⌜ Wrote (now (out .entry)) at (encode (limitOfTypes (now (types .entry)) first a ∷ [])) (now (out .exit)) r ⌝ }
 {
@@ -26,7 +26,7 @@ fn push_sum(types: &[u32], first: u32, a: u32, out: &mut [u32], at: usize) -> us
 }
 
 fn push_sum_if(types: &[u32], first: u32, yes: bool, a: u32, out: &mut [u32], at: usize) -> usize
-    requires { ⌜ first + length (now types) ≤ 300000000 ⌝ }
+    requires { ⌜ first + length (now types) ≤ 160 ⌝ }
     requires { ⌜ a ≤ 32 ⌝ }
     ensures { λ r.
         ⌜ Wrote (now (out .entry)) at (encode (onlyIf yes (limitOfTypes (now (types .entry)) first a))) (now (out .exit)) r ⌝ }

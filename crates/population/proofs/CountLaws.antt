@@ -17,7 +17,7 @@ use Rattle.orm.specs.Population.{cellsOfType, cellsOfPred, cells}
 use Rattle.orm.specs.Populate.{size, firstValue, typeValues, row, rows, population}
 use Rattle.table.specs.Positions.{predCount, typeCount, diagramOf}
 use Rattle.table.specs.Laws.Walks.{each-length}
-use Rattle.table.specs.Cursors.{placedAt, placedLeft, firstCursor, nextCursor}
+use Rattle.table.specs.Cursors.{placedAt, placedLeft, firstCursor, nextCursor, Here}
 use Rattle.table.specs.Laws.Cursors.{placed-start, placed-more, placed-none}
 use Rattle.table.specs.declared.Cursor.{Cursor}
 use Rattle.buffer.specs.Written.{Splits}
@@ -85,14 +85,16 @@ module _ (t c : List ℕ) where
       let own : getD c (placedAt t x .own) 0 ≡ getD c (x .own) 0 = unfold placedAt in refl in
       counted-more w (preds-next t c x n h ey) (pred-length (diagramOf t) c (placedAt t x) ∙ rw (ek, own, role-count t x))
 
-pub cells-fit : (a b : ℕ) {i j : ℕ} → a ≤ 4096 → b ≤ 999999 → i ≡ a → j ≡ b → Fits w64 (i * j)
-cells-fit a b h k ei ej = rw (ei, ej) (record { fits = omega (arith, mul-le-mul h k) })
-
 pub row-cells : {a b a′ b′ i j : ℕ} → a ≡ a′ → b ≡ b′ → i ≡ a → j ≡ b → i * j ≡ a′ * b′
 row-cells ea eb ei ej = rw (ei, ej, ea, eb)
 
-pub row-cells-few : (a b : ℕ) {i j : ℕ} → a ≤ 4096 → b ≤ 999999 → i ≡ a → j ≡ b → i * j ≤ 5000000000
-row-cells-few a b h k ei ej = rw (ei, ej) (omega (arith, mul-le-mul h k))
+-- at most 4096 rows, of a predicate whose roles are among the first 160 sets
+module _ (t : List ℕ) (x : Cursor) (here : Here t x) {a b i j : ℕ} (few : a ≤ 4096) (eb : b ≡ getD (drop (x .at) t) 2 0) (ei : i ≡ a) (ej : j ≡ b) where
+  pub row-cells-few : i * j ≤ 4096 * 160
+  row-cells-few = let narrow : b ≤ 160 = omega (arith, here .roles) in rw (ei, ej) (mul-le-mul few narrow)
+
+  pub cells-fit : Fits w64 (i * j)
+  cells-fit = record { fits = omega (arith, row-cells-few) }
 
 pub cells-counted : (t c : List ℕ) {a b : ℕ} → a ≡ length (typeCells (diagramOf t) c 0 (length (diagramOf t .types)))
     → b ≡ length (predCells t c (placed (diagramOf t)))

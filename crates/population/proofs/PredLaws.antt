@@ -96,9 +96,6 @@ counts-length : (y : Placed) → length (counts y) ≡ length (parts y)
 unfolding counts
 counts-length y = length-map (parts y) (λ (b : Part). length (b .roles))
 
-pub types-few : {t types : List ℕ} → Types t types → length types ≤ 96
-types-few r = r .few
-
 pub ready-few : {t c : List ℕ} {x : Cursor} → Ready t c x → Few t x
 ready-few r = r .few
 

@@ -2,7 +2,7 @@
 use crate::types::size;
 ghost use mathlib.Core.Path.{_≡_};
 ghost use mathlib.Core.List.{map, flatMap};
-ghost use Prim.Native.Nat.{_*_, _≤_};
+ghost use Prim.Native.Nat.{_+_, _*_, _≤_};
 ghost use lib.ListN.{length, getD, drop};
 ghost use Rattle.counting.specs.Lists.{upFrom};
 ghost use Rattle.orm.specs.Sets.{placed};
@@ -20,7 +20,7 @@ pub fn count_type_cells(t: &[u32], c: &[u32]) -> usize
         ≡ length
         (flatMap cellsOfType
         (map (typeValues (diagramOf (now (t .entry))) (now (c .entry))) (upFrom 0 (length (diagramOf (now (t .entry)) .types))))) ⌝ }
-    ensures { λ r. ⌜ r ≤ 200000 ⌝ }
+    ensures { λ r. ⌜ r ≤ 32 * 4097 ⌝ }
 {
     let mut left = table::type_count(t);
     let mut a: u32 = 0;
@@ -39,7 +39,7 @@ fn count_row_cells(t: &[u32], c: &[u32], x: table::Cursor) -> usize
     requires { ⌜ Small (now c) ⌝ }
     requires { ⌜ Here (now t) x ⌝ }
     ensures { λ r. ⌜ r ≡ getD (now (c .entry)) (x .own) 0 * getD (drop (x .at) (now (t .entry))) 2 0 ⌝ }
-    ensures { λ r. ⌜ r ≤ 5000000000 ⌝ }
+    ensures { λ r. ⌜ r ≤ 4096 * 160 ⌝ }
 {
     table::index(size(c, x.own)) * table::index(table::number(t, x.at, 2))
 }
@@ -52,7 +52,7 @@ pub fn count_pred_cells(t: &[u32], c: &[u32]) -> usize
         ≡ length
         (flatMap cellsOfPred
         (map (rows (diagramOf (now (t .entry))) (now (c .entry))) (placed (diagramOf (now (t .entry)))))) ⌝ }
-    ensures { λ r. ⌜ r ≤ 200000000000 ⌝ }
+    ensures { λ r. ⌜ r ≤ 32 * (1 + 4096 * 160) ⌝ }
 {
     let mut left = table::pred_count(t);
     let mut x = table::first_cursor(t, table::role_count(t));

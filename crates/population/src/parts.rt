@@ -3,7 +3,7 @@
 use crate::types::size;
 ghost use mathlib.Core.Path.{_≡_};
 ghost use mathlib.Core.List.{flatMap};
-ghost use Prim.Native.Nat.{_+_, _-_, _≤_};
+ghost use Prim.Native.Nat.{_+_, _-_, _≤_, _<_};
 ghost use lib.ListN.{length, getD, drop};
 ghost use Rattle.counting.specs.Lists.{upFrom};
 ghost use Rattle.orm.specs.Sets.{parts, groupRoles};
@@ -95,7 +95,7 @@ fn push_sizes(c: &[u32], sets: &[u32], out: &mut [u32], at: usize) -> usize
 // The sizes of `count` consecutive sets.
 fn push_sizes_up(c: &[u32], first: u32, count: u32, out: &mut [u32]) -> usize
     requires { ⌜ Small (now c) ⌝ }
-    requires { ⌜ first + count ≤ 300000000 ⌝ }
+    requires { ⌜ first + count < 4294967296 ⌝ }
     ensures { λ r. ⌜ Wrote (now (out .entry)) 0 (sizesOf (now (c .entry)) (upFrom first count)) (now (out .exit)) r ⌝ }
 {
     let mut left = count;

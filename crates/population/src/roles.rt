@@ -40,7 +40,7 @@ fn share(c: &[u32], set: u32, y: u32, number: u32) -> u32
 fn taken(types: &[u32], c: &[u32], first: u32, number: u32, p: u32) -> u32
     requires { ⌜ Small (now c) ⌝ }
     requires { ⌜ length (now types) ≤ 96 ⌝ }
-    requires { ⌜ first ≤ 1000000 ⌝ }
+    requires { ⌜ first ≤ 64 ⌝ }
     ensures { λ r. ⌜ r ≡ takenBefore (now (c .entry)) p (played number first (now (types .entry))) ⌝ }
 {
     let mut i = 0;
@@ -59,7 +59,7 @@ fn taken(types: &[u32], c: &[u32], first: u32, number: u32, p: u32) -> u32
 
 // Where p stands in a list; past its end if it does not.
 fn position(p: u32, list: &[u32]) -> u32
-    requires { ⌜ length (now list) ≤ 1000000 ⌝ }
+    requires { ⌜ length (now list) ≤ 6 ⌝ }
     ensures { λ r. ⌜ r ≡ position p (now (list .entry)) ⌝ }
 {
     let mut i = 0;

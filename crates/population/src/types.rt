@@ -1,7 +1,7 @@
 // The members of the types: each type has the first values of its root.
 ghost use mathlib.Core.Path.{_≡_};
 ghost use mathlib.Core.List.{map, flatMap};
-ghost use Prim.Native.Nat.{_+_, _-_, min, _≤_};
+ghost use Prim.Native.Nat.{_+_, _-_, min, _≤_, _<_};
 ghost use lib.ListN.{length, getD};
 ghost use Rattle.counting.specs.Lists.{upFrom};
 ghost use Rattle.orm.specs.Population.{cellsOfType};
@@ -83,7 +83,7 @@ fn fitting(length: usize, at: usize, count: u32) -> u32
 
 // `count` consecutive numbers. That there is room is tested once for all of them.
 fn push_up(out: &mut [u32], at: usize, first: u32, count: u32) -> usize
-    requires { ⌜ first + count ≤ 300000000 ⌝ }
+    requires { ⌜ first + count < 4294967296 ⌝ }
     ensures { λ r. ⌜ Wrote (now (out .entry)) at (upFrom first count) (now (out .exit)) r ⌝ }
 {
     let mut left = fitting(out.len(), at, count);

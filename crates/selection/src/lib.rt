@@ -1,17 +1,17 @@
-// The roles of a valid table that have a number at a place of their lines: their sets, and how many
-// they are. Each function that writes does so from the index `at` on and answers the index behind.
+// The roles of a valid table that are of one type, or in one group: their sets, and how many they are.
+// Each function that writes does so from the index `at` on and answers the index behind.
 ghost use mathlib.Core.Path.{_≡_};
 ghost use mathlib.Core.Bool.{not};
-ghost use Prim.Native.Nat.{_+_, _-_, _≤_};
+ghost use Prim.Native.Nat.{_+_, _*_, _-_, _≤_, _<_};
 ghost use lib.Dec.{eqb};
-ghost use lib.ListN.{length, drop};
+ghost use lib.ListN.{length, getD, drop};
 ghost use Rattle.counting.specs.Lists.{upFrom};
-ghost use Rattle.orm.specs.Sets.{select, groupRoles};
+ghost use Rattle.orm.specs.Sets.{rolesInGroup, groupRoles};
 ghost use Rattle.buffer.specs.Written.{Wrote};
 ghost use Rattle.orm.specs.Diagram.{allRoles};
 ghost use Rattle.table.specs.Positions.{rolesIn, diagramOf, Walkable};
 ghost use Rattle.table.specs.Cursors.{placedAt, Here};
-ghost use Rattle.selection.specs.Selected.{when, has, typesOf, positions, Bounded, Types};
+ghost use Rattle.selection.specs.Selected.{when, typesOf, positions, Types};
 
 // ---- single numbers
 
@@ -42,7 +42,7 @@ fn push_if(out: &mut [u32], at: usize, yes: bool, x: u32) -> usize
 }
 
 fn add_if(n: u32, yes: bool) -> u32
-    requires { ⌜ n ≤ 300000000 ⌝ }
+    requires { ⌜ n + 1 < 4294967296 ⌝ }
     ensures { λ r. ⌜ r ≡ n + length (when yes 0) ⌝ }
     ensures { λ r. ⌜ r ≤ n + 1 ⌝ }
 {
@@ -51,7 +51,7 @@ fn add_if(n: u32, yes: bool) -> u32
 
 // `count` consecutive numbers.
 pub fn push_up(out: &mut [u32], at: usize, first: u32, count: u32) -> usize
-    requires { ⌜ first + count ≤ 300000000 ⌝ }
+    requires { ⌜ first + count < 4294967296 ⌝ }
     ensures { λ r. ⌜ Wrote (now (out .entry)) at (upFrom first count) (now (out .exit)) r ⌝ }
 {
     let mut left = count;
@@ -65,61 +65,12 @@ pub fn push_up(out: &mut [u32], at: usize, first: u32, count: u32) -> usize
     to
 }
 
-// ---- roles that have a number at a place of their lines
-
-// The sets of those among the `count` roles from position q on; `first` is the first role's set.
-pub fn push_roles(
-    t: &[u32],
-    q: usize,
-    count: u32,
-    first: u32,
-    i: usize,
-    number: u32,
-    out: &mut [u32],
-    at: usize,
-) -> usize
-    requires { ⌜ Walkable (now t) ⌝ }
-    requires { ⌜ Bounded (now t) q count first i ⌝ }
-    ensures { λ r.
-        ⌜ Wrote (now (out .entry)) at (select (has i number) first (rolesIn count (drop q (now (t .entry))))) (now (out .exit)) r ⌝ }
-{
-    let mut left = count;
-    let mut p = q;
-    let mut set = first;
-    let mut to = at;
-    while 0 < left {
-        let yes = same(table::number(t, p, i), number);
-        to = push_if(out, to, yes, set);
-        p += 3;
-        set += 1;
-        left -= 1;
-    }
-    to
-}
-
-// How many they are.
-pub fn count_roles(t: &[u32], q: usize, count: u32, i: usize, number: u32) -> u32
-    requires { ⌜ Walkable (now t) ⌝ }
-    requires { ⌜ Bounded (now t) q count 0 i ⌝ }
-    ensures { λ r. ⌜ r ≡ length (select (has i number) 0 (rolesIn count (drop q (now (t .entry))))) ⌝ }
-    ensures { λ r. ⌜ r ≤ count ⌝ }
-{
-    let mut left = count;
-    let mut p = q;
-    let mut n: u32 = 0;
-    while 0 < left {
-        let yes = same(table::number(t, p, i), number);
-        n = add_if(n, yes);
-        p += 3;
-        left -= 1;
-    }
-    n
-}
+// ---- the types of roles
 
 // The types of the `count` roles from position q on.
 fn push_types(t: &[u32], q: usize, count: u32, out: &mut [u32], at: usize) -> usize
     requires { ⌜ Walkable (now t) ⌝ }
-    requires { ⌜ Bounded (now t) q count 0 0 ⌝ }
+    requires { ⌜ q + 3 * count ≤ length (now t) ⌝ }
     ensures { λ r. ⌜ Wrote (now (out .entry)) at (typesOf (rolesIn count (drop q (now (t .entry))))) (now (out .exit)) r ⌝ }
 {
     let mut left = count;
@@ -163,7 +114,7 @@ pub fn role_count(t: &[u32], types: &[u32]) -> u32
 
 // The sets of those of the type with this number; `first` is the first role's set.
 pub fn push_of_type(types: &[u32], number: u32, first: u32, out: &mut [u32], at: usize) -> usize
-    requires { ⌜ first + length (now types) ≤ 300000000 ⌝ }
+    requires { ⌜ first + length (now types) < 4294967296 ⌝ }
     ensures { λ r. ⌜ Wrote (now (out .entry)) at (positions number first (now (types .entry))) (now (out .exit)) r ⌝ }
 {
     let mut i = 0;
@@ -180,7 +131,7 @@ pub fn push_of_type(types: &[u32], number: u32, first: u32, out: &mut [u32], at:
 
 // How many they are.
 pub fn count_of_type(types: &[u32], number: u32) -> u32
-    requires { ⌜ length (now types) ≤ 300000000 ⌝ }
+    requires { ⌜ length (now types) < 4294967296 ⌝ }
     ensures { λ r. ⌜ r ≡ length (positions number 0 (now (types .entry))) ⌝ }
 {
     let mut i = 0;
@@ -195,24 +146,73 @@ pub fn count_of_type(types: &[u32], number: u32) -> u32
 
 // ---- roles of a group
 
+// Of the `count` roles from position q on, the sets of those in the group with this number; `first` is
+// the first role's set.
+fn push_roles(
+    t: &[u32],
+    q: usize,
+    count: u32,
+    first: u32,
+    number: u32,
+    out: &mut [u32],
+    at: usize,
+) -> usize
+    requires { ⌜ Walkable (now t) ⌝ }
+    requires { ⌜ q + 3 * count ≤ length (now t) ⌝ }
+    requires { ⌜ first + count < 4294967296 ⌝ }
+    ensures { λ r.
+        ⌜ Wrote (now (out .entry)) at (rolesInGroup number first (rolesIn count (drop q (now (t .entry))))) (now (out .exit)) r ⌝ }
+{
+    let mut left = count;
+    let mut p = q;
+    let mut set = first;
+    let mut to = at;
+    while 0 < left {
+        let yes = same(table::number(t, p, 2), number);
+        to = push_if(out, to, yes, set);
+        p += 3;
+        set += 1;
+        left -= 1;
+    }
+    to
+}
+
+// How many they are.
+fn count_roles(t: &[u32], q: usize, count: u32, number: u32) -> u32
+    requires { ⌜ Walkable (now t) ⌝ }
+    requires { ⌜ q + 3 * count ≤ length (now t) ⌝ }
+    ensures { λ r. ⌜ r ≡ length (rolesInGroup number 0 (rolesIn count (drop q (now (t .entry))))) ⌝ }
+    ensures { λ r. ⌜ r ≤ count ⌝ }
+{
+    let mut left = count;
+    let mut p = q;
+    let mut n: u32 = 0;
+    while 0 < left {
+        let yes = same(table::number(t, p, 2), number);
+        n = add_if(n, yes);
+        p += 3;
+        left -= 1;
+    }
+    n
+}
+
 // The sets of the roles in the predicate's group with this number; 0: in no group.
 pub fn push_in_group(t: &[u32], x: table::Cursor, number: u32, out: &mut [u32], at: usize) -> usize
     requires { ⌜ Walkable (now t) ⌝ }
     requires { ⌜ Here (now t) x ⌝ }
     ensures { λ r. ⌜ Wrote (now (out .entry)) at (groupRoles (placedAt (now (t .entry)) x) number) (now (out .exit)) r ⌝ }
 {
-    let q = x.at + 4;
     let count = table::number(t, x.at, 2);
-    push_roles(t, q, count, x.roles, 2, number, out, at)
+    push_roles(t, x.at + 4, count, x.roles, number, out, at)
 }
 
+// How many they are.
 pub fn count_in_group(t: &[u32], x: table::Cursor, number: u32) -> u32
     requires { ⌜ Walkable (now t) ⌝ }
     requires { ⌜ Here (now t) x ⌝ }
     ensures { λ r. ⌜ r ≡ length (groupRoles (placedAt (now (t .entry)) x) number) ⌝ }
-    ensures { λ r. ⌜ r ≤ 999999 ⌝ }
+    ensures { λ r. ⌜ r ≤ getD (drop (x .at) (now (t .entry))) 2 0 ⌝ }
 {
-    let q = x.at + 4;
     let count = table::number(t, x.at, 2);
-    count_roles(t, q, count, 2, number)
+    count_roles(t, x.at + 4, count, number)
 }

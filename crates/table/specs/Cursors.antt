@@ -1,7 +1,8 @@
 -- A walk over the predicates that knows their sets: the cursor's predicate with its sets, and the next cursor.
-use Prim.Native.Nat.{ℕ, _+_, _*_, _≤_}
-use mathlib.Core.List.{List}
+use Prim.Native.Nat.{ℕ, _+_, _*_, _≤_, _<_}
+use mathlib.Core.List.{List, flatMap}
 use lib.ListN.{length, getD, drop}
+use Rattle.orm.specs.Diagram.{Predicate}
 use Rattle.orm.specs.Sets.{Placed, placedFrom, firstPred, firstRole, firstGroup}
 use Rattle.table.specs.Positions.{predOf, predLength, predsIn, predsLength, firstPredAt, diagramOf}
 use Rattle.table.specs.declared.Cursor.{Cursor}
@@ -25,28 +26,26 @@ firstCursor t = record { at = firstPredAt t; own = firstPred (diagramOf t); role
 pub record Ahead (t : List ℕ) (at n : ℕ) : Type 0 where
   pub inside : at + predsLength n (drop at t) ≤ length t
 
--- So do those from the cursor on, and its numbers stay small
+-- How many roles, and how many groups, the `n` predicates have that start here
+abbrev pub rolesAhead : ℕ → List ℕ → ℕ
+rolesAhead n s = length (flatMap (λ (p : Predicate). p .roles) (predsIn n s))
+
+abbrev pub groupsAhead : ℕ → List ℕ → ℕ
+groupsAhead n s = length (flatMap (λ (p : Predicate). p .groups) (predsIn n s))
+
+-- Those from the cursor on do, and so do their sets among the sets of a diagram: 64 types and predicates, 96 roles, 48 groups
 pub record Reach (t : List ℕ) (x : Cursor) (n : ℕ) : Type 0 where
   pub ahead : Ahead t (x .at) n
-  pub at : x .at + 5000000 * n ≤ 200000000
-  pub own : x .own + 1000000 * n ≤ 100000000
-  pub roles : x .roles + 1000000 * n ≤ 100000000
-  pub groups : x .groups + 1000000 * n ≤ 100000000
+  pub own : x .own + n ≤ 64
+  pub roles : x .roles + rolesAhead n (drop (x .at) t) ≤ 160
+  pub groups : x .groups + groupsAhead n (drop (x .at) t) ≤ 208
 
--- The first cursor's numbers
-pub record Low (x : Cursor) : Type 0 where
-  pub at : x .at ≤ 195
-  pub own : x .own ≤ 32
-  pub roles : x .roles ≤ 64
-  pub groups : x .groups ≤ 32000064
-
--- The predicate at the cursor stands in the table
+-- The predicate at the cursor does
 pub record Here (t : List ℕ) (x : Cursor) : Type 0 where
   pub inside : x .at + (4 + 3 * getD (drop (x .at) t) 2 0 + 2 * getD (drop (x .at) t) 3 0) ≤ length t
-  pub at : x .at ≤ 195000000
-  pub own : x .own ≤ 99000000
-  pub roles : x .roles ≤ 99000000
-  pub groups : x .groups ≤ 99000000
+  pub own : x .own < 64
+  pub roles : x .roles + getD (drop (x .at) t) 2 0 ≤ 160
+  pub groups : x .groups + getD (drop (x .at) t) 3 0 ≤ 208
 
 -- The `n` predicates from the cursor on
 abbrev pub placedLeft : ℕ → List ℕ → Cursor → List Placed

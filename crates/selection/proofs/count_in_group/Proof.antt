@@ -9,7 +9,7 @@ pub count-in-group-spec : {M : Type 1} → statement M
 count-in-group-spec =
     tie.close
     (tie.spec
-    (λ c. search needs)
     (λ c κs. search needs)
+    (λ c. search needs)
     (λ c κs. search needs)
     (λ c. search (needs, in-group-count)))

@@ -9,8 +9,8 @@ pub push-in-group-spec : {M : Type 1} → statement M
 push-in-group-spec =
     tie.close
     (tie.spec
-    (λ c. search needs)
     (λ c κs. search needs)
+    (λ c. search needs)
     (λ c κs. search needs)
     (λ c. search needs)
     (λ c. search (needs, in-group-is)))

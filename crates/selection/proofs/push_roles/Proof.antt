@@ -1,24 +1,23 @@
--- `selection::push_roles` meets its contract. The roles selected from those left come to the whole.
+-- `selection::push_roles` meets its contract. The roles in the group among those left come to the whole.
 -- Assumes nothing.
-use Prim.Native.Nat.{_+_, _*_, _≤_}
+use Prim.Native.Nat.{_+_, _*_, _≤_, _<_}
 use lib.ListN.{length, drop}
-use Rattle.orm.specs.Sets.{select}
+use Rattle.orm.specs.Sets.{rolesInGroup}
 use Rattle.table.specs.Positions.{rolesIn}
 use Rattle.buffer.specs.Written.{Writing}
 use Rattle.buffer.specs.Laws.{writing-start, writing-more, writing-all, writing-long}
-use Rattle.selection.specs.Selected.{has}
-use Rattle.selection.specs.Laws.Selects.{select-more, select-none}
+use Rattle.selection.specs.Laws.Selects.{in-group-more, in-group-none}
 use borrow.Author.Needs.{needs}
 use Rattle.selection.proofs.push_roles.Statement.{statement}
 use Rattle.selection.proofs.push_roles.Tie as tie
 
 abbrev Inv-loop : tie.InvT-loop
-Inv-loop t q count first i number out₀ at left₀ p₀ set₀ to₀ out left p set to =
-    (p + 3 * left ≤ length t) × (set + left ≤ 300000000)
-    × Writing out₀ at (select (has i number) first (rolesIn count (drop q t))) out to (select (has i number) set (rolesIn left (drop p t)))
+Inv-loop t q count first number out₀ at left₀ p₀ set₀ to₀ out left p set to =
+    (p + 3 * left ≤ length t) × (set + left < 4294967296)
+    × Writing out₀ at (rolesInGroup number first (rolesIn count (drop q t))) out to (rolesInGroup number set (rolesIn left (drop p t)))
 
 abbrev μ-loop : tie.MeasureT-loop
-μ-loop t q count first i number out₀ at left₀ p₀ set₀ to₀ out left p set to = left
+μ-loop t q count first number out₀ at left₀ p₀ set₀ to₀ out left p set to = left
 
 pub push-roles-spec : {M : Type 1} → statement M
 push-roles-spec =
@@ -34,6 +33,6 @@ push-roles-spec =
     (λ c. search needs)
     (λ c. search needs)
     (λ c. search needs)
-    (λ c. search (needs, writing-more, select-more))
+    (λ c. search (needs, writing-more, in-group-more))
     (λ c. search (needs, writing-long))
-    (λ c. search (needs, writing-all, select-none)))
+    (λ c. search (needs, writing-all, in-group-none)))

@@ -1,6 +1,6 @@
 -- `selection::push_up` meets its contract. The numbers left come to the whole.
 -- Assumes nothing.
-use Prim.Native.Nat.{_+_, _≤_}
+use Prim.Native.Nat.{_+_, _<_}
 use Rattle.counting.specs.Lists.{upFrom}
 use Rattle.buffer.specs.Written.{Writing}
 use Rattle.buffer.specs.Laws.{writing-start, writing-more, writing-all, writing-long}
@@ -11,7 +11,7 @@ use Rattle.selection.proofs.push_up.Tie as tie
 
 abbrev Inv-loop : tie.InvT-loop
 Inv-loop out₀ at first count left₀ x₀ to₀ out left x to =
-    (x + left ≤ 300000000) × Writing out₀ at (upFrom first count) out to (upFrom x left)
+    (x + left < 4294967296) × Writing out₀ at (upFrom first count) out to (upFrom x left)
 
 abbrev μ-loop : tie.MeasureT-loop
 μ-loop out₀ at first count left₀ x₀ to₀ out left x to = left

@@ -8,7 +8,7 @@ use Rattle.table.specs.Laws.Walks.{ahead-start, ahead-here, ahead-third, ahead-
 use Rattle.buffer.specs.Written.{Writing}
 use Rattle.buffer.specs.Laws.{writing-more, writing-all, writing-long}
 use Rattle.selection.specs.Selected.{typesOf}
-use Rattle.selection.specs.Laws.Types.{typesWithin, types-start, roles-bounded, types-next, types-end}
+use Rattle.selection.specs.Laws.Types.{typesWithin, types-start, roles-inside, types-next, types-end}
 use borrow.Author.Needs.{needs}
 use Rattle.selection.proofs.write_types.Statement.{statement}
 use Rattle.selection.proofs.write_types.Tie as tie
@@ -30,7 +30,7 @@ write-types-spec =
     (λ c. search (needs, types-start, ahead-start))
     (λ c κs. search (needs, ahead-third))
     (λ c. search (needs, ahead-here))
-    (λ c κs. search (needs, roles-bounded))
+    (λ c κs. search (needs, roles-inside))
     (λ c κs. search (needs, ahead-here))
     (λ c. search needs)
     (λ c. search needs)

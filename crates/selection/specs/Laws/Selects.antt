@@ -1,4 +1,4 @@
--- The roles that pass a test: what a turn of a loop over them writes or counts, and what it leaves.
+-- The roles of a type, or in a group: what a turn of a loop over them writes or counts, and what it leaves.
 use Prim.Native.Nat.{ℕ, zero, suc, _+_, _-_, _≤_, _<_}
 use native.Mathlib.Numerals.{add-one}
 use native.Mathlib.Omega.{arith}
@@ -18,7 +18,7 @@ use Rattle.table.specs.Positions.{rolesIn}
 use Rattle.table.specs.Laws.Walks.{each-more, each-none}
 use Rattle.table.specs.Cursors.{placedAt}
 use Rattle.table.specs.declared.Cursor.{Cursor}
-use Rattle.selection.specs.Selected.{when, has, typesOf, positions}
+use Rattle.selection.specs.Selected.{when, typesOf, positions}
 
 pub when-true : {o o′ : List ℕ} {at to x : ℕ} {b : Bool} → b ≡ true → Wrote o at (x ∷ []) o′ to → Wrote o at (when b x) o′ to
 when-true e w = rw e w
@@ -43,82 +43,6 @@ pub up-none : (x n : ℕ) → n ≤ 0 → upFrom x n ≡ []
 unfolding upFrom
 up-none x zero h = refl
 up-none x (suc n) h = absurd (omega arith)
-
--- ---- selecting
-
-module _ (test : Role → Bool) where
-  select-cons : (i : ℕ) (r : Role) (rs : List Role) → select test i (r ∷ rs) ≡ when (test r) i ++ select test (suc i) rs
-  unfolding select
-  select-cons i r rs = go (test r)
-    where
-      go : (b : Bool) → elim b [ true ↦ i ∷ select test (suc i) rs | false ↦ select test (suc i) rs ] ≡ when b i ++ select test (suc i) rs
-      go true = refl
-      go false = refl
-
-  pub select-append : (i : ℕ) (rs qs : List Role) → select test i (rs ++ qs) ≡ select test i rs ++ select test (i + length rs) qs
-  unfolding select
-  select-append i [] qs = let e : i ≡ i + 0 = omega arith in ap (λ (n : ℕ). select test n qs) e
-  select-append i (r ∷ rs) qs =
-      go (test r) (select-append (suc i) rs qs ∙ ap (λ (n : ℕ). select test (suc i) rs ++ select test n qs)
-      (let e : suc i + length rs ≡ i + suc (length rs) = omega arith in e))
-    where
-      go : (b : Bool) → select test (suc i) (rs ++ qs) ≡ select test (suc i) rs ++ select test (i + suc (length rs)) qs
-          → elim b as (λ _. List ℕ) [ true ↦ i ∷ select test (suc i) (rs ++ qs) | false ↦ select test (suc i) (rs ++ qs) ]
-          ≡ elim b as (λ _. List ℕ) [ true ↦ i ∷ select test (suc i) rs | false ↦ select test (suc i) rs ] ++ select test (i + suc (length rs)) qs
-      go true ih = ap {B = List ℕ} (λ l. i ∷ l) ih
-      go false ih = ih
-
-  -- the count does not depend on where the numbers start
-  pub select-length : (i j : ℕ) (rs : List Role) → length (select test i rs) ≡ length (select test j rs)
-  unfolding select
-  select-length i j [] = refl
-  select-length i j (r ∷ rs) = go (test r) (select-length (suc i) (suc j) rs)
-    where
-      go : (b : Bool) → length (select test (suc i) rs) ≡ length (select test (suc j) rs)
-          → length {A = ℕ} (elim b as (λ _. List ℕ) [ true ↦ i ∷ select test (suc i) rs | false ↦ select test (suc i) rs ])
-          ≡ length {A = ℕ} (elim b as (λ _. List ℕ) [ true ↦ j ∷ select test (suc j) rs | false ↦ select test (suc j) rs ])
-      go true ih = ap suc ih
-      go false ih = ih
-
--- a role line's numbers by place
-has-is : (s : List ℕ) (i number : ℕ) → i ≤ 2 → has i number (roleOf s) ≡ eqb (getD s i 0) number
-has-is s zero number h = refl
-has-is s (suc zero) number h = refl
-has-is s (suc (suc zero)) number h = refl
-has-is s (suc (suc (suc i))) number h = absurd (omega arith)
-
-module _ (t : List ℕ) (q n i number : ℕ) where
-  here : (set : ℕ) → i ≤ 2 → 0 < n
-      → select (has i number) set (rolesIn n (drop q t))
-      ≡ when (eqb (getD (drop q t) i 0) number) set ++ select (has i number) (set + 1) (rolesIn (n - 1) (drop (q + 3) t))
-  here set k h =
-      ap (select (has i number) set) (each-more roleOf 3 t q n h)
-      ∙ select-cons (has i number) set (roleOf (drop q t)) (rolesIn (n - 1) (drop (q + 3) t))
-      ∙ rw (has-is (drop q t) i number k, add-one)
-
-  pub select-more : (set : ℕ) {b : Bool} {v : ℕ} → i ≤ 2 → 0 < n → v ≡ getD (drop q t) i 0 → b ≡ eqb v number
-      → Splits (select (has i number) set (rolesIn n (drop q t))) (when b set)
-      (select (has i number) (set + 1) (rolesIn (n - 1) (drop (q + 3) t)))
-  select-more set k h ev eb = record { is = rw (eb, ev) (here set k h) }
-
-  pub select-none : (set : ℕ) → n ≤ 0 → select (has i number) set (rolesIn n (drop q t)) ≡ []
-  unfolding select
-  select-none set h = ap (select (has i number) set) (each-none roleOf 3 n (drop q t) h)
-
-  pub count-start : 0 + length (select (has i number) 0 (rolesIn n (drop q t))) ≡ length (select (has i number) 0 (rolesIn n (drop q t)))
-  count-start = omega arith
-
-  module _ (m : ℕ) {total : ℕ} (w : m + length (select (has i number) 0 (rolesIn n (drop q t))) ≡ total) where
-    pub count-more : {b : Bool} {v m′ : ℕ} → i ≤ 2 → 0 < n → v ≡ getD (drop q t) i 0 → b ≡ eqb v number → m′ ≡ m + length (when b 0)
-        → m′ + length (select (has i number) 0 (rolesIn (n - 1) (drop (q + 3) t))) ≡ total
-    count-more {b} {v} {m′} k h ev eb em =
-        let rest : List Role = rolesIn (n - 1) (drop (q + 3) t) in
-        let split : length (select (has i number) 0 (rolesIn n (drop q t))) ≡ length (when b 0 ++ select (has i number) 1 rest) =
-        rw (eb, ev) (ap length (here 0 k h)) in
-        omega (arith, split, length-append (when b 0) (select (has i number) 1 rest), select-length (has i number) 1 0 rest, em, w)
-
-    pub count-all : n ≤ 0 → m ≡ total
-    count-all h = let none : length (select (has i number) 0 (rolesIn n (drop q t))) ≡ 0 = ap length (select-none 0 h) in omega (arith, none, w)
 
 -- ---- the types of roles, and the roles of a type
 
@@ -179,18 +103,75 @@ module _ (number : ℕ) where
 
 -- ---- the roles of a group
 
+module _ (test : Role → Bool) where
+  select-cons : (i : ℕ) (r : Role) (rs : List Role) → select test i (r ∷ rs) ≡ when (test r) i ++ select test (suc i) rs
+  unfolding select
+  select-cons i r rs = go (test r)
+    where
+      go : (b : Bool) → elim b [ true ↦ i ∷ select test (suc i) rs | false ↦ select test (suc i) rs ] ≡ when b i ++ select test (suc i) rs
+      go true = refl
+      go false = refl
+
+  -- the count does not depend on where the numbers start
+  select-length : (i j : ℕ) (rs : List Role) → length (select test i rs) ≡ length (select test j rs)
+  select-length i j [] = unfold select in refl
+  select-length i j (r ∷ rs) =
+      rw (select-cons i r rs, select-cons j r rs) (simp length-append (go (test r) (select-length (suc i) (suc j) rs)))
+    where
+      go : (b : Bool) {x y : ℕ} → x ≡ y → length (when b i) + x ≡ length (when b j) + y
+      go true e = omega arith
+      go false e = omega arith
+
+-- of `n` roles from position q on
+module _ (t : List ℕ) (q n number : ℕ) where
+  pub in-group-more : (set : ℕ) {b : Bool} {v : ℕ} → 0 < n → v ≡ getD (drop q t) 2 0 → b ≡ eqb v number
+      → Splits (rolesInGroup number set (rolesIn n (drop q t))) (when b set)
+      (rolesInGroup number (set + 1) (rolesIn (n - 1) (drop (q + 3) t)))
+  unfolding rolesInGroup
+  in-group-more set h ev eb = record {
+    is =
+        ap (rolesInGroup number set) (each-more roleOf 3 t q n h) ∙ select-cons (λ (r : Role). eqb (r .group) number) set (roleOf (drop q t)) _
+        ∙ rw (eb, ev, add-one);
+  }
+
+  pub in-group-none : (set : ℕ) → n ≤ 0 → rolesInGroup number set (rolesIn n (drop q t)) ≡ []
+  unfolding rolesInGroup select
+  in-group-none set h = ap (rolesInGroup number set) (each-none roleOf 3 n (drop q t) h)
+
+  pub grouped-start : 0 + length (rolesInGroup number 0 (rolesIn n (drop q t))) ≡ length (rolesInGroup number 0 (rolesIn n (drop q t)))
+  grouped-start = omega arith
+
+  module _ (m : ℕ) {total : ℕ} (w : m + length (rolesInGroup number 0 (rolesIn n (drop q t))) ≡ total) where
+    pub grouped-more : {b : Bool} {v m′ : ℕ} → 0 < n → v ≡ getD (drop q t) 2 0 → b ≡ eqb v number → m′ ≡ m + length (when b 0)
+        → m′ + length (rolesInGroup number 0 (rolesIn (n - 1) (drop (q + 3) t))) ≡ total
+    unfolding rolesInGroup
+    grouped-more {b} h ev eb em =
+        let rest : List Role = rolesIn (n - 1) (drop (q + 3) t) in
+        omega (
+          arith,
+          ap length (in-group-more 0 h ev eb .is),
+          length-append (when b 0) (rolesInGroup number (0 + 1) rest),
+          select-length (λ (r : Role). eqb (r .group) number) (0 + 1) 0 rest,
+          em,
+          w,
+        )
+
+    pub grouped-all : n ≤ 0 → m ≡ total
+    grouped-all h = omega (arith, ap length (in-group-none 0 h), w)
+
+-- of the predicate at the cursor
 module _ (t : List ℕ) (x : Cursor) (number : ℕ) {n : ℕ} (en : n ≡ getD (drop (x .at) t) 2 0) where
-  in-group : (set : ℕ)
-      → select (has 2 number) set (rolesIn n (drop (x .at + 4) t)) ≡ rolesInGroup number set (placedAt t x .predicate .roles)
-  unfolding rolesInGroup placedAt
+  in-group : (set : ℕ) → rolesInGroup number set (rolesIn n (drop (x .at + 4) t)) ≡ rolesInGroup number set (placedAt t x .predicate .roles)
+  unfolding placedAt
   in-group set = rw (en, ← drop-drop 4 (x .at) t)
 
-  pub in-group-is : {o o′ : List ℕ} {at to : ℕ} → Wrote o at (select (has 2 number) (x .roles) (rolesIn n (drop (x .at + 4) t))) o′ to
+  pub in-group-is : {o o′ : List ℕ} {at to : ℕ} → Wrote o at (rolesInGroup number (x .roles) (rolesIn n (drop (x .at + 4) t))) o′ to
       → Wrote o at (groupRoles (placedAt t x) number) o′ to
   unfolding groupRoles placedAt
   in-group-is w = wrote-as w (in-group (x .roles))
 
-  pub in-group-count : {r : ℕ} → r ≡ length (select (has 2 number) 0 (rolesIn n (drop (x .at + 4) t)))
+  pub in-group-count : {r : ℕ} → r ≡ length (rolesInGroup number 0 (rolesIn n (drop (x .at + 4) t)))
       → r ≡ length (groupRoles (placedAt t x) number)
-  unfolding groupRoles placedAt
-  in-group-count e = e ∙ select-length (has 2 number) 0 (x .roles) (rolesIn n (drop (x .at + 4) t)) ∙ ap length (in-group (x .roles))
+  unfolding groupRoles rolesInGroup placedAt
+  in-group-count e =
+      e ∙ ap length (in-group 0) ∙ select-length (λ (r : Role). eqb (r .group) number) 0 (x .roles) (placedAt t x .predicate .roles)

@@ -1,5 +1,5 @@
 -- The types of all roles, written predicate by predicate: what a turn of the loop writes and what it leaves.
-use Prim.Native.Nat.{ℕ, _+_, _-_, _≤_, _<_}
+use Prim.Native.Nat.{ℕ, _+_, _*_, _-_, _≤_, _<_}
 use native.Mathlib.Omega.{arith}
 use mathlib.Core.Path.{_≡_, sym, ap, ap₂, _∙_}
 use mathlib.Core.List.{List, [], _++_, flatMap, map-append}
@@ -11,7 +11,7 @@ use Rattle.buffer.specs.Laws.{writing-start}
 use Rattle.table.specs.Positions.{rolesIn, predsIn, predLength, predCount, firstPredAt, diagramOf}
 use Rattle.table.specs.Laws.Walks.{preds-more, preds-none, ahead-here}
 use Rattle.table.specs.Cursors.{Ahead}
-use Rattle.selection.specs.Selected.{typesOf, Bounded, Types}
+use Rattle.selection.specs.Selected.{typesOf, Types}
 
 abbrev pub typesWithin : List Predicate → List ℕ
 typesWithin ps = typesOf (flatMap (λ (p : Predicate). p .roles) ps)
@@ -23,9 +23,8 @@ module _ (t : List ℕ) where
   types-start o at ep en = rw (ep, en) (writing-start o at (typesOf (allRoles (diagramOf t))))
 
   module _ (p n : ℕ) where
-    pub roles-bounded : {r : ℕ} → Ahead t p n → 0 < n → r ≡ getD (drop p t) 2 0 → r ≤ 999999 → Bounded t (p + 4) r 0 0
-    roles-bounded {r} a h e k =
-        record { inside = omega (arith, ahead-here t p n a h, e); few = k; set = omega arith; place = omega arith }
+    pub roles-inside : {r : ℕ} → Ahead t p n → 0 < n → r ≡ getD (drop p t) 2 0 → p + 4 + 3 * r ≤ length t
+    roles-inside a h e = omega (arith, ahead-here t p n a h, e)
 
     pub types-next : {e r : ℕ} → 0 < n → e ≡ p + predLength (drop p t) → r ≡ getD (drop p t) 2 0
         → Splits (typesWithin (predsIn n (drop p t))) (typesOf (rolesIn r (drop (p + 4) t))) (typesWithin (predsIn (n - 1) (drop e t)))

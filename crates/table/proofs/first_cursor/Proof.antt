@@ -1,6 +1,6 @@
 -- `table::first_cursor` meets its contract. The sets before it are the types, the predicates and, for its groups, all roles.
 -- Assumes nothing.
-use Rattle.table.specs.Laws.Cursors.{first-is, first-low}
+use Rattle.table.specs.Laws.Cursors.{first-is}
 use borrow.Author.Needs.{needs}
 use Rattle.table.proofs.first_cursor.Statement.{statement}
 use Rattle.table.proofs.first_cursor.Tie as tie
@@ -13,4 +13,4 @@ first-cursor-spec =
     (λ c κs. search needs)
     (λ c. search needs)
     (λ c κs. search needs)
-    (λ c. search (needs, first-is, first-low)))
+    (λ c. search (needs, first-is)))

@@ -1,14 +1,14 @@
 -- `table::role_count` meets its contract. The roles counted and those of the predicates left come to all roles.
 -- Assumes nothing.
-use Prim.Native.Nat.{_+_, _*_, _≤_}
-use Rattle.table.specs.Laws.Walks.{RolesLeft, roles-start, roles-more, roles-all, ahead-start, ahead-here, ahead-third, ahead-more}
+use Rattle.table.specs.Laws.Walks.{RolesLeft, roles-start, roles-more, roles-all, roles-fit, roles-few, ahead-start, ahead-here}
+use Rattle.table.specs.Laws.Walks.{ahead-third, ahead-more}
 use Rattle.table.specs.Cursors.{Ahead}
 use borrow.Author.Needs.{needs}
 use Rattle.table.proofs.role_count.Statement.{statement}
 use Rattle.table.proofs.role_count.Tie as tie
 
 abbrev Inv-loop : tie.InvT-loop
-Inv-loop t at₀ left₀ n₀ at left n = Ahead t at left × (n + 1000000 * left ≤ 32000000) × RolesLeft t at left n
+Inv-loop t at₀ left₀ n₀ at left n = Ahead t at left × RolesLeft t at left n
 
 abbrev μ-loop : tie.MeasureT-loop
 μ-loop t at₀ left₀ n₀ at left n = left
@@ -23,9 +23,9 @@ role-count-spec =
     (λ c κs. search needs)
     (λ c. search (needs, roles-start, ahead-start))
     (λ c κs. search (needs, ahead-third))
-    (λ c. search needs)
+    (λ c. search (needs, roles-fit))
     (λ c κs. search (needs, ahead-here))
     (λ c. search needs)
     (λ c. search needs)
     (λ c. search (needs, roles-more, ahead-more))
-    (λ c. search (needs, roles-all)))
+    (λ c. search (needs, roles-all, roles-few)))

@@ -2,15 +2,16 @@
 use Prim.Native.Nat.{ℕ, _+_, _*_, _-_, _≤_, _<_}
 use native.Mathlib.Numerals.{add-one}
 use native.Mathlib.Omega.{arith}
-use mathlib.Core.Path.{_≡_, refl, ap}
+use mathlib.Core.Path.{_≡_, refl}
 use mathlib.Core.List.{List, [], _∷_}
 use lib.ListN.{length, getD, drop}
-use Rattle.orm.specs.Diagram.{allRoles}
+use Rattle.orm.specs.Diagram.{allRoles, allGroups}
 use Rattle.orm.specs.Form.{typeOf, roleOf, groupOf}
 use Rattle.orm.specs.Sets.{placedFrom, placed, firstPred, firstRole, firstGroup}
-use Rattle.table.specs.Positions.{predLength, typeCount, predCount, firstPredAt, diagramOf, Walkable}
-use Rattle.table.specs.Cursors.{placedAt, nextCursor, firstCursor, Reach, Here, Low, placedLeft}
-use Rattle.table.specs.Laws.Walks.{each-length, preds-more, preds-none, preds-length, field-here, ahead-start, ahead-here, ahead-more}
+use Rattle.table.specs.Positions.{typesIn, predsIn, predLength, typeCount, predCount, firstPredAt, diagramOf, Walkable}
+use Rattle.table.specs.Cursors.{placedAt, nextCursor, firstCursor, Reach, Here, placedLeft}
+use Rattle.table.specs.Laws.Walks.{each-length, preds-more, preds-none, preds-length, ahead-start, ahead-here, ahead-more}
+use Rattle.table.specs.Laws.Walks.{roles-ahead, groups-ahead}
 use Rattle.table.specs.declared.Cursor.{Cursor}
 
 module _ (t : List ℕ) {x : Cursor} {n : ℕ} where
@@ -18,16 +19,19 @@ module _ (t : List ℕ) {x : Cursor} {n : ℕ} where
   unfolding placed diagramOf
   placed-start ex en = rw (ex, en)
 
-  pub reach-start : Walkable t → x ≡ firstCursor t → Low x → n ≡ predCount t → Reach t x n
-  reach-start w ex l en =
-      let few : n ≤ 32 = rw en (w .few-preds) in
-      record {
-        ahead = ahead-start t w (ap (λ (y : Cursor). y .at) ex) en;
-        at = omega (arith, l .at);
-        own = omega (arith, l .own);
-        roles = omega (arith, l .roles);
-        groups = omega (arith, l .groups);
-      }
+  pub reach-start : Walkable t → x ≡ firstCursor t → n ≡ predCount t → Reach t x n
+  unfolding firstPred firstRole firstGroup allRoles allGroups diagramOf
+  reach-start w ex en =
+      let types : length (typesIn (typeCount t) (drop 2 t)) ≤ 32 = rw (each-length typeOf 6 (typeCount t) (drop 2 t)) (w .few-types) in
+      let preds : length (predsIn (predCount t) (drop (firstPredAt t) t)) ≤ 32 =
+      rw (preds-length (predCount t) (drop (firstPredAt t) t)) (w .few-preds) in
+      rw (ex, en)
+      (record {
+        ahead = ahead-start t w refl refl;
+        own = omega (arith, w .few-preds);
+        roles = omega (arith, w .few-roles);
+        groups = omega (arith, w .few-roles, w .few-groups);
+      })
 
 module _ (t : List ℕ) (x : Cursor) (n : ℕ) where
   pub placed-none : n ≤ 0 → placedLeft n t x ≡ []
@@ -47,27 +51,23 @@ module _ (t : List ℕ) (x : Cursor) (n : ℕ) where
           add-one,
         )
 
-    pub reach-more : Walkable t → Reach t x n → 0 < n → y ≡ nextCursor t x → Reach t y (n - 1)
-    reach-more w r h e =
-        let a : getD (drop (x .at) t) 2 0 ≤ 999999 = rw (← field-here t (x .at) 2) (w .small (x .at + 2)) in
-        let b : getD (drop (x .at) t) 3 0 ≤ 999999 = rw (← field-here t (x .at) 3) (w .small (x .at + 3)) in
+    pub reach-more : Reach t x n → 0 < n → y ≡ nextCursor t x → Reach t y (n - 1)
+    reach-more r h e =
         rw e
         (record {
           ahead = ahead-more t (x .at) n (r .ahead) h refl;
-          at = omega arith;
           own = omega arith;
-          roles = omega arith;
-          groups = omega arith;
+          roles = omega (arith, roles-ahead t (x .at) n h refl);
+          groups = omega (arith, groups-ahead t (x .at) n h refl);
         })
 
   pub reach-here : Reach t x n → 0 < n → Here t x
   reach-here r h =
       record {
         inside = ahead-here t (x .at) n (r .ahead) h;
-        at = omega (arith, r .at);
-        own = omega (arith, r .own);
-        roles = omega (arith, r .roles);
-        groups = omega (arith, r .groups);
+        own = omega arith;
+        roles = omega (arith, roles-ahead t (x .at) n h refl);
+        groups = omega (arith, groups-ahead t (x .at) n h refl);
       }
 
 -- ---- a cursor put together from the numbers that were read
@@ -75,9 +75,6 @@ module _ (t : List ℕ) (x : Cursor) (n : ℕ) where
 pub next-is : (t : List ℕ) (x : Cursor) {a f g : ℕ} → a ≡ x .at + predLength (drop (x .at) t) → f ≡ getD (drop (x .at) t) 2 0
     → g ≡ getD (drop (x .at) t) 3 0 → (record { at = a; own = x .own + 1; roles = x .roles + f; groups = x .groups + g }) ≡ nextCursor t x
 next-is t x ea ef eg = rw (ea, ef, eg)
-
-pub first-low : {a o p r : ℕ} → a ≤ 195 → o ≤ 32 → p ≤ 64 → r ≤ 32000000 → Low (record { at = a; own = o; roles = p; groups = p + r })
-first-low ha ho hp hr = record { at = ha; own = ho; roles = hp; groups = omega arith }
 
 pub first-role-is : (t : List ℕ) {o p : ℕ} → o ≡ typeCount t → p ≡ predCount t → o + p ≡ firstRole (diagramOf t)
 unfolding firstRole firstPred diagramOf

@@ -142,6 +142,8 @@ valid-walkable {t} v =
       small = subst⁻¹ (Under 999999) (table-accepted-iff t (diagramOf t) .0 (v .reads) .0) (table-small (diagramOf t) (v .formed)) .at;
       few-types = omega (arith, types, v .formed .typeCount .1);
       few-preds = omega (arith, preds, v .formed .predCount .1);
+      few-roles = v .formed .roleCount;
+      few-groups = v .formed .groupCount;
       whole = subst⁻¹ Inside (table-accepted-iff t (diagramOf t) .0 (v .reads) .0) (table-inside (diagramOf t));
     }
 

@@ -6,9 +6,11 @@ use mathlib.Core.Path.{_≡_, refl, sym, ap, ap₂, _∙_}
 use mathlib.Core.List.{List, [], _∷_, _++_, flatMap}
 use lib.ListN.{length, getD, drop, length-append, length-drop, List·getD-eq-default}
 use lib.Seq.{drop-drop, getD-drop}
-use Rattle.orm.specs.Diagram.{Predicate, allRoles, allGroups}
+use mir.Syntax.{w32}
+use mir.Val.{Fits}
+use Rattle.orm.specs.Diagram.{Predicate, allRoles}
 use Rattle.table.specs.Positions.{each, predOf, predLength, predsIn, predsLength, typeCount, predCount, firstPredAt, diagramOf, Walkable}
-use Rattle.table.specs.Cursors.{Ahead}
+use Rattle.table.specs.Cursors.{Ahead, rolesAhead, groupsAhead}
 
 -- ---- one number
 
@@ -103,56 +105,48 @@ module _ (t : List ℕ) (at n : ℕ) where
   pub ahead-more : {e : ℕ} → Ahead t at n → 0 < n → e ≡ at + predLength (drop at t) → Ahead t e (n - 1)
   ahead-more a h q = record { inside = rw q (omega (arith, a .inside, ahead-is t at n h)) }
 
--- ---- the number of roles, and of groups: those counted and those left come to the whole
+-- ---- the number of roles, and of groups: those of the predicate here and those behind it come to those ahead
 
--- the items of the predicates, `f` is `roles` or `groups` and `c` their number
+-- the items of the predicates; `f` is `roles` or `groups`, and their number stands at `i`
 module _ {A : Type 0} (f : Predicate → List A) (i : ℕ) (counted : (s : List ℕ) → length (f (predOf s)) ≡ getD s i 0) where
-  count-more : (t : List ℕ) (at n m total : ℕ) {e r : ℕ} → m + length (flatMap f (predsIn n (drop at t))) ≡ total → 0 < n
-      → e ≡ at + predLength (drop at t) → r ≡ getD (drop at t) i 0 → (m + r) + length (flatMap f (predsIn (n - 1) (drop e t))) ≡ total
+  items-more : (t : List ℕ) (at n : ℕ) {e : ℕ} → 0 < n → e ≡ at + predLength (drop at t)
+      → getD (drop at t) i 0 + length (flatMap f (predsIn (n - 1) (drop e t))) ≡ length (flatMap f (predsIn n (drop at t)))
   unfolding flatMap
-  count-more t at n m total {e} {r} w h q p =
+  items-more t at n {e} h q =
       let rest : List A = flatMap f (predsIn (n - 1) (drop e t)) in
       let split : length (flatMap f (predsIn n (drop at t))) ≡ length (f (predOf (drop at t)) ++ rest) =
       ap (λ (ps : List Predicate). length (flatMap f ps)) (preds-more t at n h q) in
-      omega (arith, split, length-append (f (predOf (drop at t))) rest, counted (drop at t), p, w)
+      omega (arith, split, length-append (f (predOf (drop at t))) rest, counted (drop at t))
 
-  count-all : (s : List ℕ) (n m total : ℕ) → m + length (flatMap f (predsIn n s)) ≡ total → n ≤ 0 → m ≡ total
-  unfolding flatMap
-  count-all s n m total w h = let none : length (flatMap f (predsIn n s)) ≡ 0 = ap (λ (ps : List Predicate). length (flatMap f ps))
-      (preds-none n s h) in omega (arith, none, w)
+module _ (t : List ℕ) (at n : ℕ) {e : ℕ} where
+  pub roles-ahead : 0 < n → e ≡ at + predLength (drop at t)
+      → getD (drop at t) 2 0 + rolesAhead (n - 1) (drop e t) ≡ rolesAhead n (drop at t)
+  roles-ahead = items-more (λ (p : Predicate). p .roles) 2 (λ s. each-length _ 3 (getD s 2 0) (drop 4 s)) t at n
 
+  pub groups-ahead : 0 < n → e ≡ at + predLength (drop at t)
+      → getD (drop at t) 3 0 + groupsAhead (n - 1) (drop e t) ≡ groupsAhead n (drop at t)
+  groups-ahead = items-more (λ (p : Predicate). p .groups) 3 (λ s. each-length _ 2 (getD s 3 0) (drop (4 + 3 * getD s 2 0) s)) t at n
+
+-- The `m` roles counted, and those ahead, are all roles
 abbrev pub RolesLeft : List ℕ → ℕ → ℕ → ℕ → Type 0
-RolesLeft t at n m = m + length (flatMap (λ (p : Predicate). p .roles) (predsIn n (drop at t))) ≡ length (allRoles (diagramOf t))
+RolesLeft t at n m = m + rolesAhead n (drop at t) ≡ length (allRoles (diagramOf t))
 
-abbrev pub GroupsLeft : List ℕ → ℕ → ℕ → ℕ → Type 0
-GroupsLeft t at n m = m + length (flatMap (λ (p : Predicate). p .groups) (predsIn n (drop at t))) ≡ length (allGroups (diagramOf t))
+pub roles-start : (t : List ℕ) {at n : ℕ} → at ≡ firstPredAt t → n ≡ predCount t → RolesLeft t at n 0
+unfolding allRoles diagramOf
+roles-start t ea en = rw (ea, en) (omega arith)
 
-module _ (t : List ℕ) {at n : ℕ} where
-  pub roles-start : at ≡ firstPredAt t → n ≡ predCount t → RolesLeft t at n 0
-  unfolding allRoles diagramOf
-  roles-start ea en = rw (ea, en) (omega arith)
+module _ (t : List ℕ) (at n m : ℕ) (left : RolesLeft t at n m) where
+  pub roles-all : n ≤ 0 → m ≡ length (allRoles (diagramOf t))
+  unfolding flatMap
+  roles-all h =
+      let none : rolesAhead n (drop at t) ≡ 0 = rw (preds-none n (drop at t) h) in
+      omega (arith, none)
 
-  pub groups-start : at ≡ firstPredAt t → n ≡ predCount t → GroupsLeft t at n 0
-  unfolding allGroups diagramOf
-  groups-start ea en = rw (ea, en) (omega arith)
+  pub roles-more : {e r : ℕ} → 0 < n → e ≡ at + predLength (drop at t) → r ≡ getD (drop at t) 2 0 → RolesLeft t e (n - 1) (m + r)
+  roles-more h q p = omega (arith, roles-ahead t at n h q)
 
-module _ (t : List ℕ) (at n m : ℕ) where
-  pub roles-all : RolesLeft t at n m → n ≤ 0 → m ≡ length (allRoles (diagramOf t))
-  roles-all =
-      count-all (λ (p : Predicate). p .roles) 2 (λ s. each-length _ 3 (getD s 2 0) (drop 4 s)) (drop at t) n m (length (allRoles (diagramOf t)))
+  pub roles-fit : {r : ℕ} → Walkable t → 0 < n → r ≡ getD (drop at t) 2 0 → Fits w32 (m + r)
+  roles-fit w h p = record { fits = omega (arith, roles-ahead t at n h refl, w .few-roles) }
 
-  pub groups-all : GroupsLeft t at n m → n ≤ 0 → m ≡ length (allGroups (diagramOf t))
-  groups-all =
-      count-all (λ (p : Predicate). p .groups) 3 (λ s. each-length _ 2 (getD s 3 0) (drop (4 + 3 * getD s 2 0) s)) (drop at t) n m
-      (length (allGroups (diagramOf t)))
-
-  module _ {e r : ℕ} where
-    pub roles-more : RolesLeft t at n m → 0 < n → e ≡ at + predLength (drop at t) → r ≡ getD (drop at t) 2 0 → RolesLeft t e (n - 1) (m + r)
-    roles-more =
-        count-more (λ (p : Predicate). p .roles) 2 (λ s. each-length _ 3 (getD s 2 0) (drop 4 s)) t at n m (length (allRoles (diagramOf t)))
-
-    pub groups-more : GroupsLeft t at n m → 0 < n → e ≡ at + predLength (drop at t) → r ≡ getD (drop at t) 3 0
-        → GroupsLeft t e (n - 1) (m + r)
-    groups-more =
-        count-more (λ (p : Predicate). p .groups) 3 (λ s. each-length _ 2 (getD s 3 0) (drop (4 + 3 * getD s 2 0) s)) t at n m
-        (length (allGroups (diagramOf t)))
+  pub roles-few : Walkable t → n ≤ 0 → m ≤ 96
+  roles-few w h = omega (arith, roles-all h, w .few-roles)

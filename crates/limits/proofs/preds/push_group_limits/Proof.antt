@@ -1,7 +1,7 @@
 -- `limits::preds::push_group_limits` meets its contract. The limits of the groups left come to the whole.
 -- Assumes nothing.
 use Prim.Native.Nat.{_+_, _*_, _≤_}
-use lib.ListN.{length, drop}
+use lib.ListN.{length, getD, drop}
 use Rattle.orm.specs.Sets.{limitsOfGroup}
 use Rattle.table.specs.Positions.{groupsIn}
 use Rattle.table.specs.Cursors.{placedAt}
@@ -14,7 +14,7 @@ use Rattle.limits.proofs.preds.push_group_limits.Tie as tie
 
 abbrev Inv-loop : tie.InvT-loop
 Inv-loop t x out₀ at left₀ q₀ number₀ to₀ out left q number to =
-    (q + 2 * left ≤ length t) × (number + left ≤ 1000000)
+    (q + 2 * left ≤ length t) × (number + left ≤ 1 + getD (drop (x .at) t) 3 0)
     × Writing out₀ at (items (limitsOfGroup (placedAt t x)) 1 (placedAt t x .predicate .groups)) out to
     (items (limitsOfGroup (placedAt t x)) number (groupsIn left (drop q t)))
 

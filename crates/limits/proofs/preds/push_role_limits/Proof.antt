@@ -14,7 +14,7 @@ use Rattle.limits.proofs.preds.push_role_limits.Tie as tie
 
 abbrev Inv-loop : tie.InvT-loop
 Inv-loop t x out₀ at left₀ q₀ p₀ to₀ out left q p to =
-    (q + 3 * left ≤ length t) × (p + left ≤ 200000000)
+    (q + 3 * left ≤ length t) × (p + left ≤ 160)
     × Writing out₀ at (items (limitsOfRole (placedAt t x)) (x .roles) (placedAt t x .predicate .roles)) out to
     (items (limitsOfRole (placedAt t x)) p (rolesIn left (drop q t)))
 

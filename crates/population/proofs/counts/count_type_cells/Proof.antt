@@ -10,7 +10,7 @@ use Rattle.population.proofs.counts.count_type_cells.Statement.{stateme
 use Rattle.population.proofs.counts.count_type_cells.Tie as tie
 
 abbrev Inv-loop : tie.InvT-loop
-Inv-loop t c left₀ a₀ n₀ left a n = (a + left ≤ 32) × (n + 5000 * left ≤ 160000) × Counted n (typeCells (diagramOf t) c a left)
+Inv-loop t c left₀ a₀ n₀ left a n = (a + left ≤ 32) × (n + 4097 * left ≤ 32 * 4097) × Counted n (typeCells (diagramOf t) c a left)
     (typeCells (diagramOf t) c 0 (length (diagramOf t .types)))
 
 abbrev μ-loop : tie.MeasureT-loop

@@ -13,7 +13,7 @@ use Rattle.population.proofs.parts.push_group_counts.Statement.{stateme
 use Rattle.population.proofs.parts.push_group_counts.Tie as tie
 
 abbrev Inv-loop : tie.InvT-loop
-Inv-loop t x out₀ at left₀ number₀ to₀ out left number to = (number + left ≤ 1000000) × Writing out₀ at
+Inv-loop t x out₀ at left₀ number₀ to₀ out left number to = (number + left ≤ 1 + getD (drop (x .at) t) 3 0) × Writing out₀ at
     (groupCounts (placedAt t x) (upFrom 1 (getD (drop (x .at) t) 3 0))) out to (groupCounts (placedAt t x) (upFrom number left))
 
 abbrev μ-loop : tie.MeasureT-loop

@@ -11,7 +11,7 @@ use Rattle.population.proofs.parts.push_grouped.Statement.{statement}
 use Rattle.population.proofs.parts.push_grouped.Tie as tie
 
 abbrev Inv-loop : tie.InvT-loop
-Inv-loop t x out₀ at left₀ number₀ to₀ out left number to = (number + left ≤ 1000000) × Writing out₀ at
+Inv-loop t x out₀ at left₀ number₀ to₀ out left number to = (number + left ≤ 1 + getD (drop (x .at) t) 3 0) × Writing out₀ at
     (grouped (placedAt t x) 1 (getD (drop (x .at) t) 3 0)) out to (grouped (placedAt t x) number left)
 
 abbrev μ-loop : tie.MeasureT-loop

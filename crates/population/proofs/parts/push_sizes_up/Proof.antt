@@ -1,6 +1,6 @@
 -- `population::parts::push_sizes_up` meets its contract. The sizes of the sets left come to the whole.
 -- Assumes nothing.
-use Prim.Native.Nat.{_+_, _≤_}
+use Prim.Native.Nat.{_+_, _<_}
 use Rattle.counting.specs.Lists.{upFrom}
 use Rattle.buffer.specs.Written.{Writing}
 use Rattle.buffer.specs.Laws.{writing-start, writing-more, writing-all, writing-long}
@@ -12,7 +12,7 @@ use Rattle.population.proofs.parts.push_sizes_up.Tie as tie
 
 abbrev Inv-loop : tie.InvT-loop
 Inv-loop c first count out₀ left₀ set₀ to₀ out left set to =
-    (set + left ≤ 300000000) × Writing out₀ 0 (sizesOf c (upFrom first count)) out to (sizesOf c (upFrom set left))
+    (set + left < 4294967296) × Writing out₀ 0 (sizesOf c (upFrom first count)) out to (sizesOf c (upFrom set left))
 
 abbrev μ-loop : tie.MeasureT-loop
 μ-loop c first count out₀ left₀ set₀ to₀ out left set to = left

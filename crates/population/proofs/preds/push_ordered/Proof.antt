@@ -2,7 +2,7 @@
 -- Assumes nothing.
 use Rattle.population.proofs.PartLaws.{front-count}
 use Rattle.population.proofs.Planning.{ordered-listed}
-use Rattle.population.proofs.PredLaws.{types-few, columns-within, columned}
+use Rattle.population.proofs.PredLaws.{columns-within, columned}
 use borrow.Author.Needs.{needs}
 use Rattle.population.proofs.preds.push_ordered.Statement.{statement}
 use Rattle.population.proofs.preds.push_ordered.Tie as tie
@@ -13,7 +13,7 @@ push-ordered-spec =
     (tie.spec
     (λ c κs. search needs)
     (λ c. search needs)
-    (λ c κs. (search needs, (search needs, (search (needs, ordered-listed, types-few), search needs))))
+    (λ c κs. (search needs, (search needs, (search (needs, ordered-listed), search needs))))
     (λ c. search (needs, columns-within))
     (λ c. search (needs, front-count, columns-within))
     (λ c κs. (search needs, (search (needs, columned), search needs)))

@@ -33,6 +33,6 @@ push-preds-spec =
     (λ c κs. (search (needs, valid-walkable), search (needs, reach-here)))
     (λ c. search needs)
     (λ c. search needs)
-    (λ c. search (needs, writing-more, preds-next, reach-more, few-more, valid-walkable))
+    (λ c. search (needs, writing-more, preds-next, reach-more, few-more))
     (λ c. search (needs, writing-long))
     (λ c. search (needs, writing-all, preds-end)))

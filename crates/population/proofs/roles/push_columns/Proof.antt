@@ -11,7 +11,7 @@ use Rattle.population.proofs.roles.push_columns.Statement.{statement}
 use Rattle.population.proofs.roles.push_columns.Tie as tie
 
 abbrev Inv-loop : tie.InvT-loop
-Inv-loop t c types roles out₀ left₀ q₀ p₀ to₀ out left q p to = (q + 3 * left ≤ length t) × (p + left ≤ 200000000) × Writing out₀ 0
+Inv-loop t c types roles out₀ left₀ q₀ p₀ to₀ out left q p to = (q + 3 * left ≤ length t) × (p + left ≤ 160) × Writing out₀ 0
     (columnsFrom (diagramOf t) c types roles p₀ (rolesIn left₀ (drop q₀ t))) out to
     (columnsFrom (diagramOf t) c types roles p (rolesIn left (drop q t)))
 

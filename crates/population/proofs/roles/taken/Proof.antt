@@ -8,7 +8,7 @@ use Rattle.population.proofs.roles.taken.Statement.{statement}
 use Rattle.population.proofs.roles.taken.Tie as tie
 
 abbrev Inv-loop : tie.InvT-loop
-Inv-loop types c first number p i₀ set₀ sum₀ i set sum = (i ≤ length types) × (set ≤ 1000000 + i) ×
+Inv-loop types c first number p i₀ set₀ sum₀ i set sum = (i ≤ length types) × (set ≤ 64 + i) ×
     (sum ≤ 4096 * i) × Taking c number p types first i set sum
 
 abbrev μ-loop : tie.MeasureT-loop

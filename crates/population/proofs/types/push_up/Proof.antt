@@ -1,6 +1,6 @@
 -- `population::types::push_up` meets its contract. The numbers left, of those that there is room for, come to the whole.
 -- Assumes nothing.
-use Prim.Native.Nat.{_+_, _-_, _≤_}
+use Prim.Native.Nat.{_+_, _-_, _≤_, _<_}
 use mathlib.Core.Path.{_≡_}
 use lib.ListN.{length}
 use Rattle.counting.specs.Lists.{upFrom}
@@ -13,7 +13,7 @@ use Rattle.population.proofs.types.push_up.Tie as tie
 
 abbrev Inv-loop : tie.InvT-loop
 Inv-loop out₀ at first count left₀ x₀ to₀ out left x to =
-    (x + left ≤ 300000000) × (left ≤ length out - to) × (to + left ≡ at + fitting first count out₀ at) ×
+    (x + left < 4294967296) × (left ≤ length out - to) × (to + left ≡ at + fitting first count out₀ at) ×
     Writing out₀ at (upFrom first (fitting first count out₀ at)) out to (upFrom x left)
 
 abbrev μ-loop : tie.MeasureT-loop

@@ -17,7 +17,7 @@ use Rattle.orm.specs.Sets.{Placed, Part, parts, placed, firstRole}
 use Rattle.orm.specs.Population.{cellsOfType, cellsOfPred, cells}
 use Rattle.orm.specs.Populate.{size, firstAt, root, firstValue, takenBefore, row, rows, typeValues, population}
 use Rattle.buffer.specs.Written.{Wrote, Writing, Splits}
-use Rattle.buffer.specs.Laws.{wrote-then, wrote-as, wrote-front, wrote-whole, wrote-fit, wrote-long, wrote-within, writing-start}
+use Rattle.buffer.specs.Laws.{wrote-then, wrote-as, wrote-front, wrote-whole, wrote-within, writing-start}
 use Rattle.table.specs.Positions.{predsIn, predOf, predCount, predLength, firstPredAt, typeCount, diagramOf, Walkable}
 use Rattle.table.specs.Laws.Walks.{preds-more, field-here}
 use Rattle.selection.specs.Selected.{Types}
@@ -95,9 +95,6 @@ owns-length c y = length-map (parts y) (λ (b : Part). size c (b .own))
 counts-length : (y : Placed) → length (counts y) ≡ length (parts y)
 unfolding counts
 counts-length y = length-map (parts y) (λ (b : Part). length (b .roles))
-
-pub ready-few : {t c : List ℕ} {x : Cursor} → Ready t c x → Few t x
-ready-few r = r .few
 
 module _ (types roles : List ℕ) {t c : List ℕ} {x : Cursor} (ready : Ready t c x) {s s′ : List ℕ} {n : ℕ} (room : length s ≡ 24)
     (w : Wrote s 0 (columnsFrom (diagramOf t) c types roles (x .roles) (placedAt t x .predicate .roles)) s′ n) where
@@ -298,18 +295,6 @@ module _ {t s s′ : List ℕ} {n : ℕ} (v : Valid t) (room : length s ≡ 96)
 
   pub types-listed : Types t (take n s′)
   types-listed = rw (wrote-front w types-fit) (record { are = refl; few = omega (arith, types-fit, room) })
-
--- a buffer that is not full has all that was to be written
-module _ (t : List ℕ) {s s′ : List ℕ} {n : ℕ} (w : Wrote s 0 (map (λ (r : Role). r .type) (allRoles (diagramOf t))) s′ n) (few : n < 32)
-    (room : length s ≡ 32) where
-  few-fit : length (map (λ (r : Role). r .type) (allRoles (diagramOf t))) ≤ length s
-  few-fit = omega (arith, wrote-fit w (let k : n < length s′ = omega (arith, wrote-long w) in k))
-
-  pub few-within : n ≤ length s′
-  few-within = wrote-within w few-fit
-
-  pub few-listed : Types t (take n s′)
-  few-listed = rw (wrote-front w few-fit) (record { are = refl; few = omega (arith, few-fit, room) })
 
 pub cells-is : (t c : List ℕ) {o o₁ o₂ : List ℕ} {at a b : ℕ}
     → Wrote o at (flatMap cellsOfType (map (typeValues (diagramOf t) c) (upFrom 0 (length (diagramOf t .types))))) o₁ a

@@ -27,10 +27,6 @@ fn type_space() -> [u32; 96] {
     [0u32; 96]
 }
 
-fn few_types() -> [u32; 32] {
-    [0u32; 32]
-}
-
 // The cells, with the types of all roles at hand.
 fn write_typed(t: &[u32], c: &[u32], types: &[u32], out: &mut [u32]) -> usize
     requires { ⌜ Valid (now t) ⌝ }
@@ -42,8 +38,9 @@ fn write_typed(t: &[u32], c: &[u32], types: &[u32], out: &mut [u32]) -> usize
     push_preds(t, c, types, out, a)
 }
 
-// With room for the types of all roles of every diagram.
-fn write_large(t: &[u32], c: &[u32], out: &mut [u32]) -> usize
+// Writes the cells of the population of a valid table with these sizes of its sets. There is room for
+// the types of all roles of every diagram.
+pub fn write_cells(t: &[u32], c: &[u32], out: &mut [u32]) -> usize
     requires { ⌜ Valid (now t) ⌝ }
     requires { ⌜ Small (now c) ⌝ }
     ensures { λ r. ⌜ Wrote (now (out .entry)) 0 (cells (population (diagramOf (now (t .entry))) (now (c .entry)))) (now (out .exit)) r ⌝ }
@@ -51,21 +48,6 @@ fn write_large(t: &[u32], c: &[u32], out: &mut [u32]) -> usize
     let mut types = type_space();
     let n = selection::write_types(t, &mut types);
     write_typed(t, c, &types[..n], out)
-}
-
-// Writes the cells of the population of a valid table with these sizes of its sets. Few roles need
-// little room for their types.
-pub fn write_cells(t: &[u32], c: &[u32], out: &mut [u32]) -> usize
-    requires { ⌜ Valid (now t) ⌝ }
-    requires { ⌜ Small (now c) ⌝ }
-    ensures { λ r. ⌜ Wrote (now (out .entry)) 0 (cells (population (diagramOf (now (t .entry))) (now (c .entry)))) (now (out .exit)) r ⌝ }
-{
-    let mut types = few_types();
-    let n = selection::write_types(t, &mut types);
-    if n < 32 {
-        return write_typed(t, c, &types[..n], out);
-    }
-    write_large(t, c, out)
 }
 
 // How many cells `write_cells` writes.

@@ -110,11 +110,7 @@ fn push_sizes_up(c: &[u32], first: u32, count: u32, out: &mut [u32]) -> usize
 }
 
 // A call's result is a name in what is to be proved; an array written in place is all its numbers.
-pub fn part_space() -> [u32; 12] {
-    [0u32; 12]
-}
-
-pub fn role_space() -> [u32; 6] {
+fn role_space() -> [u32; 6] {
     [0u32; 6]
 }
 

@@ -1,12 +1,10 @@
 // The cells of the predicates: each function prepares one thing more for a predicate and hands all of
 // it on.
 use crate::parts::part_sizes;
-use crate::parts::part_space;
 use crate::parts::plan_parts;
 use crate::parts::plan_rows;
 use crate::parts::push_counts;
 use crate::parts::push_grouped;
-use crate::parts::role_space;
 use crate::roles::push_columns;
 use crate::rows::push_rows;
 use crate::types::size;
@@ -22,6 +20,15 @@ ghost use Rattle.selection.specs.Selected.{Types};
 ghost use Rattle.tuples.specs.Steps.{Small};
 ghost use Rattle.table.specs.Valid.{Valid};
 ghost use Rattle.population.specs.Plan.{cellsAt, Ready, Ordered, Opened, Columned, Owned, Stepped, Prepared, Complete};
+
+// A call's result is a name in what is to be proved; an array written in place is all its numbers.
+fn part_space() -> [u32; 12] {
+    [0u32; 12]
+}
+
+fn role_space() -> [u32; 6] {
+    [0u32; 6]
+}
 
 fn column_space() -> [u32; 24] {
     [0u32; 24]
@@ -54,23 +61,10 @@ fn push_planned(
     let size = size(c, x.own);
     let count = table::number(t, x.at, 2);
     let to = buffer::push(out, at, size);
-    let mut rows = part_space();
-    let mut flat = role_space();
-    push_rows(
-        columns,
-        count,
-        outer,
-        ks,
-        inner,
-        size,
-        &mut rows,
-        &mut flat,
-        out,
-        to,
-    )
+    push_rows(columns, count, outer, ks, inner, size, out, to)
 }
 
-// The same, with the steps of the parts' roles prepared here.
+// Prepares the steps of the parts' roles, with all else that is prepared at hand.
 fn push_prepared(
     t: &[u32],
     c: &[u32],
@@ -92,7 +86,7 @@ fn push_prepared(
     push_planned(t, c, x, columns, outer, ks, &inner, out, at)
 }
 
-// The same, with the count of each part's roles found here.
+// Finds how many roles each part has, with the columns and the steps of the parts at hand.
 fn push_stepped(
     t: &[u32],
     c: &[u32],
@@ -114,7 +108,7 @@ fn push_stepped(
     push_prepared(t, c, x, roles, columns, sizes, outer, &ks[..m], out, at)
 }
 
-// The same, with the steps by which the parts are paired to rows prepared here.
+// Prepares the steps by which the parts are paired to rows, with the columns and the sizes of the parts at hand.
 fn push_sized(
     t: &[u32],
     c: &[u32],
@@ -135,7 +129,7 @@ fn push_sized(
     push_stepped(t, c, x, roles, columns, sizes, &outer, out, at)
 }
 
-// The same, with the sizes of the parts found here; the ungrouped roles stand from `a` on in `roles`.
+// Finds the sizes of the parts, with the columns at hand; the ungrouped roles stand from `a` on in `roles`.
 fn push_columned(
     t: &[u32],
     c: &[u32],
@@ -156,7 +150,7 @@ fn push_columned(
     push_sized(t, c, x, roles, columns, &sizes[..n], out, at)
 }
 
-// The same, with the columns prepared here; `types` has the types of all roles.
+// Prepares the columns, with the roles of the parts at hand; `types` has the types of all roles.
 fn push_ordered(
     t: &[u32],
     c: &[u32],
@@ -178,27 +172,7 @@ fn push_ordered(
     push_columned(t, c, x, roles, a, &columns[..n], out, at)
 }
 
-// The same, with the roles of the parts found here, part by part; `roles` is scratch.
-fn push_gathered(
-    t: &[u32],
-    c: &[u32],
-    types: &[u32],
-    x: table::Cursor,
-    roles: &mut [u32],
-    out: &mut [u32],
-    at: usize,
-) -> usize
-    requires { ⌜ Ready (now t) (now c) x ⌝ }
-    requires { ⌜ Types (now t) (now types) ⌝ }
-    requires { ⌜ length (now roles) ≡ 6 ⌝ }
-    ensures { λ r. ⌜ Wrote (now (out .entry)) at (cellsAt (now (t .entry)) (now (c .entry)) x) (now (out .exit)) r ⌝ }
-{
-    let a = push_grouped(t, x, roles, 0);
-    let n = selection::push_in_group(t, x, 0, roles, a);
-    push_ordered(t, c, types, x, &roles[..n], a, out, at)
-}
-
-// The same from the table, the sizes and the types of all roles.
+// The cells of the predicate at x: finds the roles of its parts, part by part.
 fn push_pred(
     t: &[u32],
     c: &[u32],
@@ -212,7 +186,9 @@ fn push_pred(
     ensures { λ r. ⌜ Wrote (now (out .entry)) at (cellsAt (now (t .entry)) (now (c .entry)) x) (now (out .exit)) r ⌝ }
 {
     let mut roles = role_space();
-    push_gathered(t, c, types, x, &mut roles, out, at)
+    let a = push_grouped(t, x, &mut roles, 0);
+    let n = selection::push_in_group(t, x, 0, &mut roles, a);
+    push_ordered(t, c, types, x, &roles[..n], a, out, at)
 }
 
 pub fn push_preds(t: &[u32], c: &[u32], types: &[u32], out: &mut [u32], at: usize) -> usize

@@ -43,7 +43,7 @@ fn cell(columns: &[u32], p: usize, flat: &[u32]) -> u32
     first + tuples::remainder(start + member(flat, place), size)
 }
 
-// A row of `count` columns, given by parts, as much of it as there is room for.
+// A row of `count` columns, given by parts: as much of it as there is room for.
 fn push_cells(columns: &[u32], count: u32, flat: &[u32], out: &mut [u32], at: usize) -> usize
     requires { ⌜ Under 999999 (now columns) ⌝ }
     requires { ⌜ 4 * count ≤ length (now columns) ⌝ }
@@ -71,7 +71,7 @@ fn store(out: &mut [u32], at: usize, x: u32) -> usize
     at + 1
 }
 
-// The same row where there is room for all of it.
+// A row of `count` columns, given by parts, where there is room for all of it.
 fn store_cells(columns: &[u32], count: u32, flat: &[u32], out: &mut [u32], at: usize) -> usize
     requires { ⌜ Under 999999 (now columns) ⌝ }
     requires { ⌜ 4 * count ≤ length (now columns) ⌝ }
@@ -161,6 +161,15 @@ fn row(
     row_of(columns, count, ks, inner, &rows[..n], flat, out, at)
 }
 
+fn part_space() -> [u32; 12] {
+    [0u32; 12]
+}
+
+fn role_space() -> [u32; 6] {
+    [0u32; 6]
+}
+
+// The first `size` rows.
 pub fn push_rows(
     columns: &[u32],
     count: u32,
@@ -168,25 +177,34 @@ pub fn push_rows(
     ks: &[u32],
     inner: &[u32],
     size: u32,
-    rows: &mut [u32],
-    flat: &mut [u32],
     out: &mut [u32],
     at: usize,
 ) -> usize
     requires { ⌜ Planned count (now columns) (now outer) (now ks) (now inner) ⌝ }
     requires { ⌜ size ≤ 4096 ⌝ }
-    requires { ⌜ length (now rows) ≡ 12 ⌝ }
-    requires { ⌜ length (now flat) ≡ 6 ⌝ }
     ensures { λ r.
         ⌜ Wrote (now (out .entry)) at
         (flatMap (rowBy (now (columns .entry)) count (now (outer .entry)) (now (ks .entry)) (now (inner .entry))) (upFrom 0 size))
         (now (out .exit)) r ⌝ }
 {
+    let mut rows = part_space();
+    let mut flat = role_space();
     let mut left = size;
     let mut i: u32 = 0;
     let mut to = at;
     while 0 < left {
-        to = row(columns, count, outer, ks, inner, i, rows, flat, out, to);
+        to = row(
+            columns,
+            count,
+            outer,
+            ks,
+            inner,
+            i,
+            &mut rows,
+            &mut flat,
+            out,
+            to,
+        );
         i += 1;
         left -= 1;
     }

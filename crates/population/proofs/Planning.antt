@@ -1,7 +1,7 @@
 -- What is prepared for a predicate, from what stands at the front of the scratch.
-use Prim.Native.Nat.{ℕ, zero, suc, _+_, _*_, _-_, _≤_, _<_}
+use Prim.Native.Nat.{ℕ, zero, suc, _+_, _-_, _≤_}
 use native.Mathlib.Omega.{arith}
-use mathlib.Core.Path.{_≡_, refl, sym, ap, ap₂, _∙_}
+use mathlib.Core.Path.{_≡_, sym, ap, ap₂, _∙_}
 use mathlib.Core.List.{List, [], _∷_, _++_, map, append-nil}
 use lib.ListN.{length, getD, drop, take, length-append, length-drop, length-map}
 use lib.Seq.{drop-append-seam, take-all}
@@ -60,7 +60,7 @@ module _ {t c sizes : List ℕ} {x : Cursor} (o : Owned t c x sizes) where
   owned-few f = omega (arith, ap length (o .are), owns-few t c x f)
 
   pub owned-wanted : {ks : List ℕ} → Few t x → Small c → Small ks → Wants sizes ks
-  owned-wanted f h k = record { few = omega (arith, owned-few f); wanted = owned-small h; counted = k }
+  owned-wanted f h k = record { few = owned-few f; wanted = owned-small h; counted = k }
 
 module _ (c roles : List ℕ) {s s′ : List ℕ} {n : ℕ} (few : length roles ≤ 6) (room : length s ≡ 6) (w : Wrote s 0 (sizesOf c roles) s′ n) where
   sizes-fit : length (sizesOf c roles) ≤ length s
@@ -75,9 +75,6 @@ module _ (c roles : List ℕ) {s s′ : List ℕ} {n : ℕ} (few : length roles 
   pub planned-with : (ws ks : List ℕ) {o o′ : List ℕ} {at to : ℕ} → Wrote o at (stepsOfEach ws ks (take n s′)) o′ to
       → Wrote o at (stepsOfEach ws ks (sizesOf c roles)) o′ to
   planned-with ws ks v = wrote-as v (ap (stepsOfEach ws ks) (wrote-front w sizes-fit))
-
-pub wants-few : {ws ks : List ℕ} → Wants ws ks → length ws ≤ 100
-wants-few w = w .few
 
 pub wants-small : {ws ks : List ℕ} → Wants ws ks → Small ws
 wants-small w = w .wanted

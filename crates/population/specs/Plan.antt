@@ -6,7 +6,7 @@ use mathlib.Core.List.{List, [], _∷_, _++_, flatMap, flatten, map}
 use lib.Dec.{eqb}
 use lib.ListN.{length, getD, drop}
 use Rattle.counting.specs.Lists.{mapFrom}
-use Rattle.orm.specs.Diagram.{Diagram, Role, index, allRoles}
+use Rattle.orm.specs.Diagram.{Diagram, Role, index}
 use Rattle.orm.specs.Sets.{Placed, Part, parts, groupRoles, firstRole}
 use Rattle.orm.specs.Population.{cellsOfPred}
 use Rattle.orm.specs.Populate.{size, firstValue, takenBefore, row, rows}
@@ -85,7 +85,7 @@ rowBy columns count outer ks inner i = each (cellOf (tuplesIn inner ks (tupleIn 
 
 -- Counts wanted, and counts of sets
 pub record Wants (wants ks : List ℕ) : Type 0 where
-  pub few : length wants ≤ 100
+  pub few : length wants ≤ 12
   pub wanted : Small wants
   pub counted : Small ks
 

@@ -226,7 +226,7 @@ pub fn prepare_each(wants: &[u32], counts: &[u32], sizes: &[u32], out: &mut [u32
     requires { ⌜ Small (now wants) ⌝ }
     requires { ⌜ Small (now counts) ⌝ }
     requires { ⌜ Small (now sizes) ⌝ }
-    requires { ⌜ length (now wants) ≤ 100 ⌝ }
+    requires { ⌜ 4096 * length (now wants) < 18446744073709551616 ⌝ }
     ensures { λ r. ⌜ Wrote (now (out .entry)) 0 (stepsOfEach (now (wants .entry)) (now (counts .entry)) (now (sizes .entry))) (now (out .exit)) r ⌝ }
 {
     let mut i = 0;

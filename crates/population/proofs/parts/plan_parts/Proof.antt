@@ -1,7 +1,7 @@
 -- `population::parts::plan_parts` meets its contract. The sizes of the roles stand at the front of the scratch.
 -- Assumes nothing.
 use Rattle.population.proofs.PartLaws.{front-count}
-use Rattle.population.proofs.Planning.{sizes-within, sizes-front, planned-with, wants-few, wants-small, counts-small}
+use Rattle.population.proofs.Planning.{sizes-within, sizes-front, planned-with, wants-small, counts-small}
 use borrow.Author.Needs.{needs}
 use Rattle.population.proofs.parts.plan_parts.Statement.{statement}
 use Rattle.population.proofs.parts.plan_parts.Tie as tie
@@ -15,6 +15,6 @@ plan-parts-spec =
     (λ c κs. search needs)
     (λ c. search (needs, sizes-within))
     (λ c. search (needs, front-count, sizes-within))
-    (λ c κs. (search (needs, wants-small), (search (needs, counts-small), (search (needs, sizes-front), search (needs, wants-few)))))
+    (λ c κs. (search (needs, wants-small), (search (needs, counts-small), (search (needs, sizes-front), search needs))))
     (λ c. search needs)
     (λ c. search (needs, planned-with)))

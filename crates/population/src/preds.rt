@@ -8,9 +8,7 @@ use crate::parts::push_grouped;
 use crate::roles::push_columns;
 use crate::rows::push_rows;
 use crate::types::size;
-ghost use mathlib.Core.Path.{_≡_};
 ghost use mathlib.Core.List.{map, flatMap};
-ghost use lib.ListN.{length};
 ghost use Rattle.orm.specs.Sets.{placed};
 ghost use Rattle.orm.specs.Population.{cellsOfPred};
 ghost use Rattle.orm.specs.Populate.{rows};
@@ -64,7 +62,7 @@ fn push_planned(
     push_rows(columns, count, outer, ks, inner, size, out, to)
 }
 
-// Prepares the steps of the parts' roles, with all else that is prepared at hand.
+// The cells of the predicate at x; the steps of the parts' roles are prepared here.
 fn push_prepared(
     t: &[u32],
     c: &[u32],
@@ -86,7 +84,7 @@ fn push_prepared(
     push_planned(t, c, x, columns, outer, ks, &inner, out, at)
 }
 
-// Finds how many roles each part has, with the columns and the steps of the parts at hand.
+// The cells of the predicate at x; how many roles each part has is found here.
 fn push_stepped(
     t: &[u32],
     c: &[u32],
@@ -108,7 +106,7 @@ fn push_stepped(
     push_prepared(t, c, x, roles, columns, sizes, outer, &ks[..m], out, at)
 }
 
-// Prepares the steps by which the parts are paired to rows, with the columns and the sizes of the parts at hand.
+// The cells of the predicate at x; the steps by which the parts are paired to rows are prepared here.
 fn push_sized(
     t: &[u32],
     c: &[u32],
@@ -129,7 +127,8 @@ fn push_sized(
     push_stepped(t, c, x, roles, columns, sizes, &outer, out, at)
 }
 
-// Finds the sizes of the parts, with the columns at hand; the ungrouped roles stand from `a` on in `roles`.
+// The cells of the predicate at x; the sizes of the parts are found here. The ungrouped roles stand from
+// `a` on in `roles`.
 fn push_columned(
     t: &[u32],
     c: &[u32],
@@ -150,7 +149,7 @@ fn push_columned(
     push_sized(t, c, x, roles, columns, &sizes[..n], out, at)
 }
 
-// Prepares the columns, with the roles of the parts at hand; `types` has the types of all roles.
+// The cells of the predicate at x; its columns are prepared here. `types` has the types of all roles.
 fn push_ordered(
     t: &[u32],
     c: &[u32],
@@ -172,7 +171,7 @@ fn push_ordered(
     push_columned(t, c, x, roles, a, &columns[..n], out, at)
 }
 
-// The cells of the predicate at x: finds the roles of its parts, part by part.
+// The cells of the predicate at x; the roles of its parts are found here, part by part.
 fn push_pred(
     t: &[u32],
     c: &[u32],

@@ -4,7 +4,6 @@ ghost use mathlib.Core.List.{[], _∷_, flatMap};
 ghost use Prim.Native.Nat.{_+_, _*_, _-_, _≤_, _<_};
 ghost use lib.ListN.{length, getD, drop};
 ghost use Rattle.counting.specs.Lists.{upFrom};
-ghost use Rattle.orm.specs.Populate.{rows};
 ghost use Rattle.buffer.specs.Written.{Wrote};
 ghost use Rattle.table.specs.Positions.{each};
 ghost use Rattle.table.specs.Valid.{Under};
@@ -110,31 +109,31 @@ fn push_row(columns: &[u32], count: u32, flat: &[u32], out: &mut [u32], at: usiz
     store_cells(columns, count, flat, out, at)
 }
 
-// The row whose parts have the tuples `rows`; `flat` is scratch.
+// The row whose parts have the rows with these numbers, `indices`; `flat` is scratch.
 fn row_of(
     columns: &[u32],
     count: u32,
     ks: &[u32],
     inner: &[u32],
-    rows: &[u32],
+    indices: &[u32],
     flat: &mut [u32],
     out: &mut [u32],
     at: usize,
 ) -> usize
     requires { ⌜ Under 999999 (now columns) ⌝ }
     requires { ⌜ 4 * count ≤ length (now columns) ⌝ }
-    requires { ⌜ Room (now inner) (now ks) (now rows) ⌝ }
+    requires { ⌜ Room (now inner) (now ks) (now indices) ⌝ }
     requires { ⌜ length (now flat) ≡ 6 ⌝ }
     ensures { λ r.
         ⌜ Wrote (now (out .entry)) at
-        (each (cellOf (tuplesIn (now (inner .entry)) (now (ks .entry)) (now (rows .entry)))) 4 count (now (columns .entry)))
+        (each (cellOf (tuplesIn (now (inner .entry)) (now (ks .entry)) (now (indices .entry)))) 4 count (now (columns .entry)))
         (now (out .exit)) r ⌝ }
 {
-    let n = tuples::tuple_each(inner, ks, rows, flat);
+    let n = tuples::tuple_each(inner, ks, indices, flat);
     push_row(columns, count, &flat[..n], out, at)
 }
 
-// Row i; `rows` and `flat` are scratch.
+// Row i; `indices` and `flat` are scratch.
 fn row(
     columns: &[u32],
     count: u32,
@@ -142,14 +141,14 @@ fn row(
     ks: &[u32],
     inner: &[u32],
     i: u32,
-    rows: &mut [u32],
+    indices: &mut [u32],
     flat: &mut [u32],
     out: &mut [u32],
     at: usize,
 ) -> usize
     requires { ⌜ Planned count (now columns) (now outer) (now ks) (now inner) ⌝ }
     requires { ⌜ i ≤ 4096 ⌝ }
-    requires { ⌜ length (now rows) ≡ 12 ⌝ }
+    requires { ⌜ length (now indices) ≡ 12 ⌝ }
     requires { ⌜ length (now flat) ≡ 6 ⌝ }
     ensures { λ r.
         ⌜ Wrote (now (out .entry)) at
@@ -157,8 +156,8 @@ fn row(
         (now (out .exit)) r ⌝ }
 {
     let n = ks.len();
-    tuples::tuple(outer, 0, n, i, rows, 0);
-    row_of(columns, count, ks, inner, &rows[..n], flat, out, at)
+    tuples::tuple(outer, 0, n, i, indices, 0);
+    row_of(columns, count, ks, inner, &indices[..n], flat, out, at)
 }
 
 fn part_space() -> [u32; 12] {
@@ -187,7 +186,7 @@ pub fn push_rows(
         (flatMap (rowBy (now (columns .entry)) count (now (outer .entry)) (now (ks .entry)) (now (inner .entry))) (upFrom 0 size))
         (now (out .exit)) r ⌝ }
 {
-    let mut rows = part_space();
+    let mut indices = part_space();
     let mut flat = role_space();
     let mut left = size;
     let mut i: u32 = 0;
@@ -200,7 +199,7 @@ pub fn push_rows(
             ks,
             inner,
             i,
-            &mut rows,
+            &mut indices,
             &mut flat,
             out,
             to,

@@ -11,12 +11,12 @@ use Rattle.population.proofs.rows.push_rows.Statement.{statement}
 use Rattle.population.proofs.rows.push_rows.Tie as tie
 
 abbrev Inv-loop : tie.InvT-loop
-Inv-loop columns count outer ks inner size out₀ at rows₀ flat₀ left₀ i₀ to₀ out rows flat left i to =
-    (i + left ≤ 4096) × (length rows ≡ 12) × (length flat ≡ 6) ×
+Inv-loop columns count outer ks inner size out₀ at indices₀ flat₀ left₀ i₀ to₀ out indices flat left i to =
+    (i + left ≤ 4096) × (length indices ≡ 12) × (length flat ≡ 6) ×
     Writing out₀ at (rowsFrom columns count outer ks inner 0 size) out to (rowsFrom columns count outer ks inner i left)
 
 abbrev μ-loop : tie.MeasureT-loop
-μ-loop columns count outer ks inner size out₀ at rows₀ flat₀ left₀ i₀ to₀ out rows flat left i to = left
+μ-loop columns count outer ks inner size out₀ at indices₀ flat₀ left₀ i₀ to₀ out indices flat left i to = left
 
 pub push-rows-spec : {M : Type 1} → statement M
 push-rows-spec =

@@ -8,14 +8,14 @@ use mathlib.Core.Bool.{Bool, true, false, not}
 use mathlib.Core.List.{List, [], _∷_, map}
 use lib.Dec.{leb}
 use lib.ListN.{length, getD, take, drop, length-drop, length-take, replicate, drop-of-length-le}
-use lib.Seq.{drop-cons, drop-drop, getD-take, getD-drop, drop-nil}
+use lib.Seq.{drop-drop, getD-take, getD-drop}
 use borrow.Author.Tests.{not-true, not-false}
 use Rattle.counting.specs.Lists.{column}
-use Rattle.orm.specs.Diagram.{ObjectType, Role, Predicate, Diagram}
+use Rattle.orm.specs.Diagram.{ObjectType, Role}
 use Rattle.orm.specs.Form.{typeOf, roleOf}
 use Rattle.orm.specs.Population.{rowsOf}
 use Rattle.orm.specs.Constraints.{membersOf}
-use Rattle.table.specs.Positions.{predOf, predLength, rolesIn, predsIn, typeCount, predCount, firstPredAt, diagramOf, Walkable}
+use Rattle.table.specs.Positions.{predOf, predLength, rolesIn, predsIn, typeCount, predCount, firstPredAt, diagramOf}
 use Rattle.table.specs.Laws.Walks.{each-length, preds-more, preds-none}
 use Rattle.columns.specs.declared.Column.{Column}
 use Rattle.columns.specs.declared.Rows.{Rows}
@@ -24,7 +24,8 @@ use Rattle.columns.specs.Reach.{Reached}
 use Rattle.blocks.specs.declared.End.{End}
 use Rattle.blocks.specs.declared.End.the-variants.{At, Short}
 use Rattle.blocks.specs.Cuts.{fits-length}
-use Rattle.blocks.specs.Blocks.{blockLength, blockFits, membersAt, rowsAt, behind, contents, membersIn, behindTypes, populationAt, predWidth, typeWidth, endOf}
+use Rattle.blocks.specs.Blocks.{blockLength, blockFits, membersAt, rowsAt, behind, contents, membersIn, behindTypes, populationAt}
+use Rattle.blocks.specs.Blocks.{predWidth, endOf}
 
 -- ---- the numbers stay small
 
@@ -168,12 +169,6 @@ behind-all t s r e h = rw (types-count t, ← e) h
 
 -- ---- members
 
-pub smaller-first : {a b : ℕ} → a < b → a ≡ min a b
-smaller-first h = omega arith
-
-pub smaller-second : {a b : ℕ} → b ≤ a → b ≡ min a b
-smaller-second h = omega arith
-
 spaced-take : (k : ℕ) (l : List ℕ) → spaced (min k (length l)) 1 l ≡ take k l
 unfolding spaced
 spaced-take zero l = let e : min 0 (length l) ≡ 0 = omega arith in rw e
@@ -235,10 +230,6 @@ pub record RowsHere (s : List ℕ) (at width : ℕ) (r : Rows) : Type 0 where
   pub wide : r .width ≡ width
   pub count : r .count ≡ getD (drop at s) 0 0
   pub inside : r .start ≤ length s
-
-pub rows-here : (s : List ℕ) (at width start : ℕ) {v i : ℕ} → drop start s ≡ drop 1 (drop at s) → start ≤ length s → v ≡ getD (drop at s) 0 0
-    → i ≡ v → RowsHere s at width (record { start = start; width = width; count = i })
-rows-here s at width start h l e f = record { start = h; wide = refl; count = f ∙ e; inside = l }
 
 -- A column of those rows: where it starts at most
 pub record ColumnHere (s : List ℕ) (at width : ℕ) (c : Column) : Type 0 where

@@ -28,7 +28,7 @@ pub record PredHere (t s : List ℕ) (pred at : ℕ) : Type 0 where
   pub few : predWidth (predOf (drop pred t)) ≤ 6
   pub wide : Each (λ (row : List ℕ). length row ≡ predWidth (predOf (drop pred t))) (rowsAt (predWidth (predOf (drop pred t))) (drop at s))
 
--- The `n` predicates from `pred` of the table on are there and have few roles, and their rows, from `at` of the cells on, have a cell for each
+-- So are the `n` predicates from `pred` of the table on, with their rows from `at` of the cells on
 pub record Standing (t s : List ℕ) (pred at n : ℕ) : Type 0 where
   pub ahead : Ahead t pred n
   pub few : Each (λ (p : Predicate). predWidth p ≤ 6) (predsIn n (drop pred t))
@@ -62,8 +62,11 @@ module _ (t s : List ℕ) (pred at left : ℕ) (st : Standing t s pred at left) 
       let few : Each (λ (p : Predicate). predWidth p ≤ 6) (predOf (drop pred t) ∷ predsIn (left - 1) (drop (pred + predLength (drop pred t)) t)) =
       rw (preds-more t pred left h refl) at (st .few) in
       let wide = rw (preds-more t pred left h refl) at (st .wide) in
-      let roles : predWidth (predOf (drop pred t)) ≡ getD (drop pred t) 2 0 = each-length roleOf 3 (getD (drop pred t) 2 0) (drop 4 (drop pred t)) in
-      record { inside = rw roles (ahead-here t pred left (st .ahead) h); few = each-head _ few; wide = wide .0 }
+      record {
+        inside = rw (each-length roleOf 3 (getD (drop pred t) 2 0) (drop 4 (drop pred t))) (ahead-here t pred left (st .ahead) h);
+        few = each-head _ few;
+        wide = wide .0;
+      }
 
   pub standing-inside : pred + predLength (drop pred t) ≤ length t
   standing-inside = ahead-here t pred left (st .ahead) h

@@ -8,7 +8,7 @@ ghost use lib.ListN.{length, getD, drop, replicate};
 ghost use Rattle.counting.specs.Lists.{column};
 ghost use Rattle.orm.specs.Calls.{populationIn};
 ghost use Rattle.orm.specs.Constraints.{membersOf};
-ghost use Rattle.table.specs.Positions.{diagramOf, predOf, predsIn, Walkable};
+ghost use Rattle.table.specs.Positions.{diagramOf, predOf, Walkable};
 ghost use Rattle.columns.specs.Values.{valuesIn};
 ghost use Rattle.columns.specs.Reach.{Reached};
 ghost use Rattle.blocks.specs.Blocks.{blockLength, blockFits, membersAt, rowsAt, behind, behindTypes, populationAt, predWidth, endOf, extentOf};

@@ -1,20 +1,18 @@
 // The constraints K1 to K10 of the population in some cells, and the lowest that is broken.
 use columns::Column;
 ghost use mathlib.Core.Path.{_≡_};
-ghost use mathlib.Core.Bool.{Bool};
-ghost use mathlib.Core.List.{map};
 ghost use Prim.Native.Nat.{_+_, _*_, _≤_, _<_};
 ghost use lib.Dec.{eqb};
-ghost use lib.ListN.{length, getD, take, drop};
+ghost use lib.ListN.{length, take, drop};
 ghost use Rattle.counting.specs.Lists.{column};
 ghost use Rattle.counting.specs.Distinct.{within};
 ghost use Rattle.orm.specs.Form.{typeOf, roleOf, groupOf};
 ghost use Rattle.orm.specs.Sets.{rolesInGroup};
-ghost use Rattle.orm.specs.Constraints.{K1, K2, K3, K4, K5, K6, K7, K8, K9, K10, eachType, eachPred, firstFalse, membersOf, answer};
+ghost use Rattle.orm.specs.Constraints.{K1, K2, K3, K4, K5, K6, K10, eachType, eachPred, firstFalse, membersOf, answer};
 ghost use Rattle.table.specs.Positions.{diagramOf, predOf, Walkable};
 ghost use Rattle.columns.specs.Values.{valuesIn};
 ghost use Rattle.columns.specs.Reach.{Reached};
-ghost use Rattle.blocks.specs.Blocks.{membersAt, rowsAt, predWidth};
+ghost use Rattle.blocks.specs.Blocks.{membersAt, predWidth};
 ghost use Rattle.blocks.specs.Standing.{PredHere, Populated};
 ghost use Rattle.playing.specs.Playing.{populationOf, predAt, rowsHere};
 ghost use Rattle.constraints.specs.Tests.{typeTest, predTest, filled, roleTest, rolesTest, groupTest, groupsTest};

@@ -2,12 +2,12 @@
 use Prim.Native.Nat.{ℕ, zero, suc, _+_, _*_, _-_, _≤_, _<_}
 use native.Mathlib.Nat.{mul-le-mul, suc-mul, zero-mul}
 use native.Mathlib.Omega.{arith}
-use mathlib.Core.Path.{_≡_, refl, sym, ap, ap₂, _∙_}
-use mathlib.Core.List.{List, [], _∷_, _++_, map, flatMap, flatten}
-use lib.ListN.{length, getD, drop, length-append, length-map}
+use mathlib.Core.Path.{_≡_, refl, sym, ap, _∙_}
+use mathlib.Core.List.{List, [], _∷_, map, flatten}
+use lib.ListN.{length, getD, drop, length-append}
 use mir.Syntax.{w64}
 use mir.Val.{Fits}
-use Rattle.counting.specs.Lists.{upFrom, mapFrom}
+use Rattle.counting.specs.Lists.{upFrom}
 use Rattle.counting.specs.Laws.Range.{length-upFrom}
 use Rattle.counting.specs.Laws.Index.{length-mapFrom}
 use Rattle.orm.specs.Diagram.{Diagram}
@@ -18,12 +18,12 @@ use Rattle.orm.specs.Populate.{size, firstValue, typeValues, row, rows, populat
 use Rattle.table.specs.Positions.{predCount, typeCount, diagramOf}
 use Rattle.table.specs.Laws.Walks.{each-length}
 use Rattle.table.specs.Cursors.{placedAt, placedLeft, firstCursor, nextCursor, Here}
-use Rattle.table.specs.Laws.Cursors.{placed-start, placed-more, placed-none}
+use Rattle.table.specs.Laws.Cursors.{placed-start}
 use Rattle.table.specs.declared.Cursor.{Cursor}
 use Rattle.buffer.specs.Written.{Splits}
-use Rattle.population.proofs.TypeLaws.{typeCells, types-more, types-none}
+use Rattle.population.proofs.TypeLaws.{typeCells, types-more}
 use Rattle.population.proofs.PartLaws.{role-count}
-use Rattle.population.proofs.PredLaws.{predCells, preds-next, preds-end}
+use Rattle.population.proofs.PredLaws.{predCells, preds-next}
 
 -- `m` are counted, and `rest` is left of `whole`
 pub record Counted (m : ℕ) (rest whole : List ℕ) : Type 0 where
@@ -89,7 +89,8 @@ pub row-cells : {a b a′ b′ i j : ℕ} → a ≡ a′ → b ≡ b′ → i �
 row-cells ea eb ei ej = rw (ei, ej, ea, eb)
 
 -- at most 4096 rows, of a predicate whose roles are among the first 160 sets
-module _ (t : List ℕ) (x : Cursor) (here : Here t x) {a b i j : ℕ} (few : a ≤ 4096) (eb : b ≡ getD (drop (x .at) t) 2 0) (ei : i ≡ a) (ej : j ≡ b) where
+module _ (t : List ℕ) (x : Cursor) (here : Here t x) {a b i j : ℕ} (few : a ≤ 4096) (eb : b ≡ getD (drop (x .at) t) 2 0) (ei : i ≡ a)
+    (ej : j ≡ b) where
   pub row-cells-few : i * j ≤ 4096 * 160
   row-cells-few = let narrow : b ≤ 160 = omega (arith, here .roles) in rw (ei, ej) (mul-le-mul few narrow)
 

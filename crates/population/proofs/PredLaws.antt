@@ -1,25 +1,22 @@
 -- The cells of the predicates: what is prepared is small and has room, and its rows are those of the definition.
-use Prim.Native.Nat.{ℕ, zero, suc, _+_, _*_, _-_, _%_, _≤_, _<_}
+use Prim.Native.Nat.{ℕ, zero, suc, _+_, _*_, _-_, _≤_, _<_}
 use native.Mathlib.Omega.{arith}
-use native.Mathlib.Decide.{decLe}
-use mathlib.Core.Path.{_≡_, refl, sym, ap, ap₂, subst, _∙_}
+use mathlib.Core.Path.{_≡_, refl, sym, ap, ap₂, _∙_}
 use mathlib.Core.Bool.{Bool, true, false}
-use mathlib.Core.List.{List, [], _∷_, _++_, map, flatMap, flatten, append-nil, List·Memᴰ·head as here, List·Memᴰ·tail as there}
+use mathlib.Core.List.{List, [], _∷_, _++_, map, flatMap, flatten, List·Memᴰ·head as here, List·Memᴰ·tail as there}
 use lib.Dec.{eqb}
 use lib.ListN.{length, getD, drop, take, length-append, length-map}
 use Rattle.counting.specs.Lists.{upFrom, mapFrom}
 use Rattle.counting.specs.Terms.{Each}
 use Rattle.counting.specs.Laws.Range.{length-upFrom}
-use Rattle.orm.specs.Diagram.{ObjectType, Role, Predicate, Diagram, index, allRoles}
-use Rattle.orm.specs.WellFormed.{PredForm, WellFormed}
-use Rattle.orm.specs.Form.{typeOf, roleOf}
+use Rattle.orm.specs.Diagram.{Role, Predicate, Diagram, index, allRoles}
 use Rattle.orm.specs.Sets.{Placed, Part, parts, placed, firstRole}
 use Rattle.orm.specs.Population.{cellsOfType, cellsOfPred, cells}
-use Rattle.orm.specs.Populate.{size, firstAt, root, firstValue, takenBefore, row, rows, typeValues, population}
+use Rattle.orm.specs.Populate.{size, takenBefore, row, rows, typeValues, population}
 use Rattle.buffer.specs.Written.{Wrote, Writing, Splits}
 use Rattle.buffer.specs.Laws.{wrote-then, wrote-as, wrote-front, wrote-whole, wrote-within, writing-start}
-use Rattle.table.specs.Positions.{predsIn, predOf, predCount, predLength, firstPredAt, typeCount, diagramOf, Walkable}
-use Rattle.table.specs.Laws.Walks.{preds-more, field-here}
+use Rattle.table.specs.Positions.{predsIn, predOf, predCount, predLength, diagramOf, Walkable}
+use Rattle.table.specs.Laws.Walks.{preds-more}
 use Rattle.selection.specs.Selected.{Types}
 use Rattle.table.specs.Cursors.{placedAt, placedLeft, firstCursor, nextCursor, Reach}
 use Rattle.table.specs.Laws.Cursors.{placed-start, placed-more, placed-none, reach-here}

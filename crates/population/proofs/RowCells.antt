@@ -2,10 +2,10 @@
 use Prim.Native.Nat.{ℕ, zero, suc, _+_, _*_, _-_, _%_, _≤_, _<_}
 use native.Mathlib.Numerals.{add-one}
 use native.Mathlib.Omega.{arith}
-use mathlib.Core.Path.{_≡_, refl, sym, ap, ap₂, _∙_}
-use mathlib.Core.List.{List, [], _∷_, _++_, flatMap}
-use lib.ListN.{length, getD, drop, take, length-append, List·getD-append, List·getD-eq-default}
-use lib.Seq.{getD-drop, getD-append-add}
+use mathlib.Core.Path.{_≡_, refl, sym, ap, _∙_}
+use mathlib.Core.List.{List, [], _∷_, flatMap}
+use lib.ListN.{length, getD, drop, take}
+use lib.Seq.{getD-drop}
 use Rattle.counting.specs.Lists.{upFrom}
 use Rattle.buffer.specs.Written.{Wrote, Splits}
 use Rattle.buffer.specs.Laws.{wrote-as}

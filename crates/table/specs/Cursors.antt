@@ -33,14 +33,15 @@ rolesAhead n s = length (flatMap (λ (p : Predicate). p .roles) (predsIn n s))
 abbrev pub groupsAhead : ℕ → List ℕ → ℕ
 groupsAhead n s = length (flatMap (λ (p : Predicate). p .groups) (predsIn n s))
 
--- Those from the cursor on do, and so do their sets among the sets of a diagram: 64 types and predicates, 96 roles, 48 groups
+-- The `n` predicates from the cursor on stand in the table, and their sets among those of a diagram: at most 64 of types and predicates,
+-- with the roles 160, with the groups 208
 pub record Reach (t : List ℕ) (x : Cursor) (n : ℕ) : Type 0 where
   pub ahead : Ahead t (x .at) n
   pub own : x .own + n ≤ 64
   pub roles : x .roles + rolesAhead n (drop (x .at) t) ≤ 160
   pub groups : x .groups + groupsAhead n (drop (x .at) t) ≤ 208
 
--- The predicate at the cursor does
+-- The predicate at the cursor stands in the table, and its sets among those of a diagram
 pub record Here (t : List ℕ) (x : Cursor) : Type 0 where
   pub inside : x .at + (4 + 3 * getD (drop (x .at) t) 2 0 + 2 * getD (drop (x .at) t) 3 0) ≤ length t
   pub own : x .own < 64

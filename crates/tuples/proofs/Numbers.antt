@@ -1,10 +1,10 @@
 -- Single numbers: remainders and quotients, also by 0, the greatest common divisor, products that fit, and reading past the end.
-use Prim.Native.Nat.{ℕ, zero, suc, _+_, _*_, _/_, _%_, _-_, min, _≤_, _<_}
-use native.Mathlib.Nat.{mod-zero, div-zero, mod-eq-of-lt, div-eq-of-lt, mod-le, mod-lt, div-le-self, mul-le-mul, zero-lt-suc, lt-suc-self, add-zero}
+use Prim.Native.Nat.{ℕ, zero, suc, _+_, _*_, _/_, _%_, _-_, _≤_, _<_}
+use native.Mathlib.Nat.{mod-zero, div-zero, mod-eq-of-lt, div-eq-of-lt, mod-le, mod-lt, div-le-self, mul-le-mul, zero-lt-suc, add-zero}
 use native.Mathlib.Omega.{arith}
 use mathlib.Core.Path.{_≡_, refl, sym, ap, ap₂, _∙_}
 use mathlib.Core.Bool.{Bool, true, false}
-use mathlib.Core.List.{List, [], _∷_}
+use mathlib.Core.List.{List}
 use lib.ListN.{length, getD, drop, set, length-drop, List·getD-eq-default}
 use lib.Seq.{getD-drop}
 use mir.Syntax.{w32}

@@ -1,15 +1,15 @@
 -- Several pairings side by side: the steps of all of them one after another, and one row of each.
-use Prim.Native.Nat.{ℕ, zero, suc, _+_, _*_, _-_, min, _≤_, _<_}
+use Prim.Native.Nat.{ℕ, zero, _+_, _*_, _-_, min, _≤_, _<_}
 use native.Mathlib.Numerals.{add-one}
 use native.Mathlib.Omega.{arith}
-use mathlib.Core.Path.{_≡_, refl, sym, ap, ap₂, _∙_}
+use mathlib.Core.Path.{_≡_, refl, ap, ap₂, _∙_}
 use mathlib.Core.List.{List, [], _∷_, _++_, map, flatMap, flatten, zipWith, append-assoc}
-use lib.ListN.{length, getD, drop, length-append, length-map, drop-of-length-le}
-use lib.Seq.{drop-cons, drop-drop, drop-at, getD-drop}
+use lib.ListN.{length, getD, drop, drop-of-length-le}
+use lib.Seq.{drop-cons, drop-drop, drop-at}
 use Rattle.buffer.specs.Written.{Splits}
 use Rattle.pairing.specs.Pairing.{tuples}
-use Rattle.tuples.specs.Steps.{padded, stepsFrom, steps, entryAt, indexBefore, tupleIn}
-use Rattle.tuples.specs.StepsLaws.{length-tupleIn, steps-row, padded-front, entry-small, index-small}
+use Rattle.tuples.specs.Steps.{padded, stepsFrom, steps, tupleIn}
+use Rattle.tuples.specs.StepsLaws.{steps-row, padded-front}
 
 -- The steps of a pairing for each count wanted; how many sets it has stands in `ks`, and their sizes in `s`
 unfoldable pub stepsOfEach : List ℕ → List ℕ → List ℕ → List ℕ

@@ -11,8 +11,8 @@ use Rattle.report.proofs.push_types.Statement.{statement}
 use Rattle.report.proofs.push_types.Tie as tie
 
 abbrev Inv-loop : tie.InvT-loop
-Inv-loop out₀ at cells n left₀ p₀ to₀ t9 out left p to = (p + 4294967296 * left ≤ 32 * 4294967296) × Writing out₀ at (typeLines n cells) out to
-    (typeLines left (drop p cells))
+Inv-loop out₀ at cells n left₀ p₀ to₀ t9 out left p to =
+    (p + 4294967296 * left ≤ 32 * 4294967296) × Writing out₀ at (typeLines n cells) out to (typeLines left (drop p cells))
 
 abbrev μ-loop : tie.MeasureT-loop
 μ-loop out₀ at cells n left₀ p₀ to₀ t9 out left p to = left

@@ -130,7 +130,8 @@ module _ (t : List ℕ) (q n number : ℕ) where
   unfolding rolesInGroup
   in-group-more set h ev eb = record {
     is =
-        ap (rolesInGroup number set) (each-more roleOf 3 t q n h) ∙ select-cons (λ (r : Role). eqb (r .group) number) set (roleOf (drop q t)) _
+        ap (rolesInGroup number set) (each-more roleOf 3 t q n h)
+        ∙ select-cons (λ (r : Role). eqb (r .group) number) set (roleOf (drop q t)) _
         ∙ rw (eb, ev, add-one);
   }
 

@@ -8,10 +8,7 @@ use lib.ListN.{length, getD, drop, length-append}
 use lib.Seq.{drop-at, drop-drop}
 use Rattle.orm.specs.Diagram.{ObjectType, Role, Frequency, Predicate, Diagram, Line, lineOfType, lineOfRole, lineOfGroup, lineOfPred}
 use Rattle.orm.specs.Diagram.{linesOfPred, lineOfCount, predsLine, endLine, allRoles, allGroups, lines, table}
-use Rattle.orm.specs.Reader.{read}
-use Rattle.orm.specs.Form.{typeOf, roleOf, groupOf, reading}
-use Rattle.orm.specs.Text.{tableLine}
-use Rattle.reading.specs.Laws.{table-read-iff}
+use Rattle.orm.specs.Form.{typeOf, roleOf, groupOf}
 use Rattle.table.specs.Positions.{each, typesIn, rolesIn, groupsIn, predOf, predLength, predsIn, predsLength, predCount, firstPredAt, diagramOf}
 
 -- The numbers of some lines
@@ -221,7 +218,3 @@ module _ (d : Diagram) where
       let preds : List ℕ = values (flatMap linesOfPred (d .preds)) in
       rw table-whole
       (omega (arith, length-append types from-preds, types-long (d .types), length-append preds last, preds-count (d .preds)))
-
--- Reading and positions agree
-pub read-back : (t : List ℕ) (d : Diagram) (n : ℕ) (rest : List ℕ) → reading tableLine t ≡ read d n rest → diagramOf t ≡ d
-read-back t d n rest e = ap diagramOf (table-read-iff t d n rest .0 e .from) ∙ table-back d

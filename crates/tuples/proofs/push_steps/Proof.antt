@@ -11,8 +11,9 @@ use Rattle.tuples.proofs.push_steps.Statement.{statement}
 use Rattle.tuples.proofs.push_steps.Tie as tie
 
 abbrev Inv-loop : tie.InvT-loop
-Inv-loop want n sizes at count out₀ to left₀ p₀ tuples₀ end₀ out left p tuples end = (p + left < 18446744073709551616) × (tuples ≤ 4096) × Writing out₀ to
-    (stepsFrom want n (padded count (drop at sizes))) out end (stepsFrom want tuples (padded left (drop p sizes)))
+Inv-loop want n sizes at count out₀ to left₀ p₀ tuples₀ end₀ out left p tuples end =
+    (p + left < 18446744073709551616) × (tuples ≤ 4096)
+    × Writing out₀ to (stepsFrom want n (padded count (drop at sizes))) out end (stepsFrom want tuples (padded left (drop p sizes)))
 
 abbrev μ-loop : tie.MeasureT-loop
 μ-loop want n sizes at count out₀ to left₀ p₀ tuples₀ end₀ out left p tuples end = left

@@ -12,8 +12,9 @@ use Rattle.population.proofs.counts.count_pred_cells.Statement.{stateme
 use Rattle.population.proofs.counts.count_pred_cells.Tie as tie
 
 abbrev Inv-loop : tie.InvT-loop
-Inv-loop t c left₀ x₀ n₀ left x n = Reach t x left × (n + (1 + 4096 * 160) * left ≤ 32 * (1 + 4096 * 160)) × Counted n (predCells t c (placedLeft left t x))
-    (predCells t c (placed (diagramOf t)))
+Inv-loop t c left₀ x₀ n₀ left x n =
+    Reach t x left × (n + (1 + 4096 * 160) * left ≤ 32 * (1 + 4096 * 160))
+    × Counted n (predCells t c (placedLeft left t x)) (predCells t c (placed (diagramOf t)))
 
 abbrev μ-loop : tie.MeasureT-loop
 μ-loop t c left₀ x₀ n₀ left x n = left

@@ -47,7 +47,7 @@ fn push_ended(out: &mut [u32], at: usize, v: u32, b: u8) -> usize
 }
 
 // The numbers of a list go to the front of the buffer, as far as it has room.
-pub fn write_numbers(text: &[u8], out: &mut [u32]) -> usize
+fn write_numbers(text: &[u8], out: &mut [u32]) -> usize
     ensures { λ r. ⌜ Wrote (now (out .entry)) 0 (numbersFrom 0 (now (text .entry))) (now (out .exit)) r ⌝ }
 {
     let mut i = 0;
@@ -97,7 +97,8 @@ pub fn next(fd: i32, space: &mut [u8]) -> usize
     within(got, space)
 }
 
-// The same of a case that is a list of numbers.
+// The numbers of the next case, which is a list of them, go to the front of the buffer. One that has no room for them all has
+// the first of them.
 pub fn next_numbers(fd: i32, out: &mut [u32]) -> usize
     ensures { λ r. ⌜ Counts r (now (out .exit)) ⌝ }
 {

@@ -163,7 +163,7 @@ fn bit(b: bool) -> usize
 }
 
 // How many rows hold in the columns `js` what the row that starts at `a` holds there.
-pub fn occurrences(s: &[u32], rows: Rows, js: &[u32], a: usize) -> usize
+fn occurrences(s: &[u32], rows: Rows, js: &[u32], a: usize) -> usize
     requires { ⌜ Keyed (now s) rows (now js) ⌝ }
     requires { ⌜ Held (now s) (rows .width) (now js) a ⌝ }
     ensures { λ r. ⌜ r ≡ occurrences same (combination (now (js .entry)) (take (rows .width) (drop a (now (s .entry))))) (keysIn (now (s .entry)) rows (now (js .entry))) ⌝ }

@@ -28,7 +28,7 @@ ghost use Rattle.grammar.specs.Fault.{faultOf};
 ghost use Rattle.grammar.specs.Step.{stepOf, stepped, stepAt, predStep};
 
 // The fault, or the next place.
-pub fn after_verdict(verdict: Verdict, next: Place) -> Step
+fn after_verdict(verdict: Verdict, next: Place) -> Step
     ensures { λ r. ⌜ stepOf r ≡ stepped (faultOf verdict) next ⌝ }
 {
     match verdict {

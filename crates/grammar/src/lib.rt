@@ -5,8 +5,8 @@
 mod kinds;
 pub mod places;
 pub mod steps;
-pub mod tests;
-pub mod verdicts;
+mod tests;
+mod verdicts;
 
 ghost use mathlib.Core.Path.{_≡_};
 ghost use Rattle.grammar.specs.Fault.{numberOf};

@@ -9,7 +9,7 @@ ghost use Rattle.reading.specs.Walk.{rolesAt};
 ghost use Rattle.grammar.specs.Step.{inOrder};
 
 // The number at `i`; 0 behind the end.
-pub fn item(numbers: &[u32], i: usize) -> usize
+fn item(numbers: &[u32], i: usize) -> usize
     ensures { λ r. ⌜ r ≡ getD (now (numbers .entry)) i 0 ⌝ }
     ensures { λ r. ⌜ r < 4294967296 ⌝ }
 {
@@ -30,7 +30,7 @@ pub fn number(line: &[u32], i: usize) -> usize
 }
 
 // A cast; callers learn the bound too.
-pub fn index(x: u32) -> usize
+fn index(x: u32) -> usize
     ensures { λ r. ⌜ r ≡ x ⌝ }
     ensures { λ r. ⌜ r < 4294967296 ⌝ }
 {

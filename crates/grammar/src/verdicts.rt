@@ -18,7 +18,7 @@ ghost use Rattle.grammar.specs.Fault.{numberOf, faultOf, unlessOf};
 ghost use Rattle.grammar.specs.Step.{faultIn, freqTests};
 
 // The fault unless the test holds; else what the rest of the tests say.
-pub fn unless(fault: Fault, holds: bool, rest: Verdict) -> Verdict
+fn unless(fault: Fault, holds: bool, rest: Verdict) -> Verdict
     ensures { λ r. ⌜ faultOf r ≡ unlessOf (numberOf fault) holds (faultOf rest) ⌝ }
 {
     if holds { rest } else { Verdict::Faulty(fault) }

@@ -7,7 +7,7 @@ ghost use Rattle.orm.specs.Text.{after};
 ghost use Rattle.lexer.specs.Cuts.{foundOf, separatorKey, keyOf};
 
 // Where `key` ends that starts at `start`.
-pub fn behind(key: &[u8], text: &[u8], start: usize) -> Found
+fn behind(key: &[u8], text: &[u8], start: usize) -> Found
     ensures { λ r. ⌜ foundOf (now (text .entry)) r ≡ after (now (key .entry)) (drop start (now (text .entry))) ⌝ }
 {
     let mut i = 0;

@@ -1,5 +1,5 @@
 // Cuts numbers, keys and lines off a text. A position stands for what follows it.
-pub mod keys;
+mod keys;
 pub mod lines;
 pub mod numbers;
 

@@ -12,7 +12,7 @@ ghost use Rattle.orm.specs.Text.{numbers, textLine};
 ghost use Rattle.lexer.specs.Cuts.{cutOf, kindOf, fieldsOf, lineOf};
 
 // The `n` numbers of a line, with commas between, and the line feed.
-pub fn numbers_at(n: usize, text: &[u8], start: usize, out: &mut [u32]) -> Found
+fn numbers_at(n: usize, text: &[u8], start: usize, out: &mut [u32]) -> Found
     requires { ⌜ n ≤ length (now out) ⌝ }
     ensures { λ r. ⌜ cutOf (now (text .entry)) (take n (now (out .exit))) r ≡ numbers n (drop start (now (text .entry))) ⌝ }
 {
@@ -50,7 +50,7 @@ pub fn fields_of(kind: Kind) -> usize
 }
 
 // The numbers of the line of this kind that starts at `at`, and where the next line starts.
-pub fn text_line(kind: Kind, text: &[u8], at: usize, out: &mut [u32]) -> Found
+fn text_line(kind: Kind, text: &[u8], at: usize, out: &mut [u32]) -> Found
     requires { ⌜ fieldsOf kind ≤ length (now out) ⌝ }
     ensures { λ r. ⌜ lineOf kind (now (text .entry)) (now (out .exit)) r ≡ textLine (kindOf kind) (drop at (now (text .entry))) ⌝ }
 {

@@ -12,7 +12,7 @@ pub fn is_digit(b: u8) -> bool
     48 <= b && b <= 57
 }
 
-pub fn digit_value(b: u8) -> u32
+fn digit_value(b: u8) -> u32
     requires { ⌜ (48 ≤ b) × (b ≤ 57) ⌝ }
     ensures { λ r. ⌜ r ≡ b - 48 ⌝ }
 {
@@ -20,7 +20,7 @@ pub fn digit_value(b: u8) -> u32
 }
 
 // The number that goes on at `start` from the value `first`, by at most `most` more digits.
-pub fn more_digits(text: &[u8], start: usize, most: u32, first: u32) -> Numeral
+fn more_digits(text: &[u8], start: usize, most: u32, first: u32) -> Numeral
     requires { ⌜ (first + 1) * 10 ^ most ≤ 1000000 ⌝ }
     ensures { λ r. ⌜ numeralOf (now (text .entry)) r ≡ digits most first (drop start (now (text .entry))) ⌝ }
 {

@@ -25,7 +25,7 @@ ghost use Rattle.reader.specs.Reach.{reachOf, lineOf, stepFrom, refusalO
 ghost use Rattle.reader.specs.Lines.{linesOf, summarised, Inside};
 
 // Where the step leads, with the positions behind the line.
-pub fn reach(step: Step, at: usize, end: usize) -> Line
+fn reach(step: Step, at: usize, end: usize) -> Line
     ensures { λ r. ⌜ r ≡ reachOf step at end ⌝ }
 {
     match step {
@@ -35,7 +35,7 @@ pub fn reach(step: Step, at: usize, end: usize) -> Line
 }
 
 // The line of the text at `at`; its numbers go to the table at `end`.
-pub fn text_step(place: Place, text: &[u8], at: usize, table: &mut [u32], end: usize) -> Line
+fn text_step(place: Place, text: &[u8], at: usize, table: &mut [u32], end: usize) -> Line
     requires { ⌜ Room place end ⌝ }
     requires { ⌜ isGoing place ≡ true ⌝ }
     requires { ⌜ length (now table) ≡ 708 ⌝ }
@@ -50,7 +50,7 @@ pub fn text_step(place: Place, text: &[u8], at: usize, table: &mut [u32], end: u
 }
 
 // The line of the table at `at`.
-pub fn table_step(place: Place, table: &[u32], at: usize) -> Line
+fn table_step(place: Place, table: &[u32], at: usize) -> Line
     requires { ⌜ Room place at ⌝ }
     requires { ⌜ isGoing place ≡ true ⌝ }
     requires { ⌜ at ≤ length (now table) ⌝ }
@@ -65,7 +65,7 @@ pub fn table_step(place: Place, table: &[u32], at: usize) -> Line
 }
 
 // The refusal of the line with this number; the loops ask for it only where the line is halted.
-pub fn refusal(line: Line, number: usize) -> Lines
+fn refusal(line: Line, number: usize) -> Lines
     ensures { λ r. ⌜ r ≡ refusalOf line number ⌝ }
 {
     match line {

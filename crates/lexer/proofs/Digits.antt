@@ -9,12 +9,15 @@ use mathlib.Core.List.{List}
 use mir.Syntax.{w32}
 use mir.Val.{Fits}
 use lib.Dec.{leb, lit<}
-use lib.ListN.{length, getD, drop, drop-of-length-le}
+use lib.ListN.{length, getD, drop, length-drop, drop-of-length-le}
 use lib.Seq.{drop-cons}
 use borrow.Author.Tests.{leb-true, ne-eqb, not-true, not-false}
+use Rattle.orm.specs.Text as text
 use Rattle.orm.specs.Text.{digits, isDigit, number, numeral, malformed}
 use Rattle.lexer.specs.declared.Numeral.{Numeral}
-use Rattle.lexer.specs.Cuts.{numeralOf}
+use Rattle.lexer.specs.declared.Numeral.the-variants.{Malformed, Value}
+use Rattle.lexer.specs.Cuts.{numeralAt}
+use Rattle.lexer.specs.Tails.{Tail, digits-tail, position-next}
 
 -- ---- a digit
 
@@ -69,51 +72,72 @@ few-first d b e l = omega arith
 
 -- ---- digits
 
+-- the digits from the next position on
+digits-next : (s : List ℕ) (left v at : ℕ) → at < length s
+    → numeralAt s (at + 1) (digits left v (drop (at + 1) s)) ≡ numeralAt s at (digits left v (drop (at + 1) s))
+digits-next s left v at h = go (digits left v (drop (at + 1) s)) (λ w rest e. digits-tail left v (drop (at + 1) s) w rest e)
+  where
+    go : (m : text.Numeral) → ((w : ℕ) (rest : List ℕ) → m ≡ numeral w rest → Tail rest (drop (at + 1) s))
+        → numeralAt s (at + 1) m ≡ numeralAt s at m
+    go malformed t = refl
+    go (numeral w rest) t = ap (Value w) (position-next s at rest h (t w rest refl))
+
 module _ (s : List ℕ) (start most first at left v : ℕ) where
   abbrev pub Digits : Type 0
-  Digits = digits left v (drop at s) ≡ digits most first (drop start s)
+  Digits = numeralAt s at (digits left v (drop at s)) ≡ numeralAt s start (digits most first (drop start s))
 
-  pub digits-end : Digits → length s ≤ at → numeral v (drop at s) ≡ digits most first (drop start s)
+  pub digits-end : Digits → length s ≤ at → Value v at ≡ numeralAt s start (digits most first (drop start s))
   unfolding digits
-  digits-end w h = rw (drop-of-length-le s {i = at} h) (rw (drop-of-length-le s {i = at} h) at w)
+  digits-end w h =
+      let e : at ≡ at + (length (drop at s) - 0) = omega (arith, length-drop at s) in
+      ap (Value v) e ∙ (rw (drop-of-length-le s {i = at} h) at w)
 
   module _ {r : Bool} (w : Digits) (h : at < length s) (e : r ≡ isDigit (getD s at 0)) where
-    pub digits-other : not r ≡ true → numeral v (drop at s) ≡ digits most first (drop start s)
+    pub digits-other : not r ≡ true → Value v at ≡ numeralAt s start (digits most first (drop start s))
     unfolding digits
-    digits-other t = rw (drop-cons s at 0 h) (rw (drop-cons s at 0 h, sym e ∙ not-true r t, digits) at w)
+    digits-other t =
+        let k : at ≡ at + (length (drop at s) - suc (length (drop (suc at) s))) = omega (arith, ap length (drop-cons s at 0 h)) in
+        ap (Value v) k ∙ (rw (drop-cons s at 0 h, sym e ∙ not-true r t, digits) at w)
 
-    pub digits-many : not r ≡ false → left ≡ 0 → malformed ≡ digits most first (drop start s)
+    pub digits-many : not r ≡ false → left ≡ 0 → Malformed ≡ numeralAt s start (digits most first (drop start s))
     unfolding digits
-    digits-many t z = sym (sym w ∙ rw (z, drop-cons s at 0 h) (rw (digits, sym e ∙ not-false r t) refl))
+    digits-many t z = rw (z, drop-cons s at 0 h, sym e ∙ not-false r t, digits) at w
 
 pub digits-more : (s : List ℕ) (start most first at left v : ℕ) {r : Bool} {d : ℕ} → Digits s start most first at left v → at < length s
     → r ≡ isDigit (getD s at 0) → not r ≡ false → (left ≡ 0 → ⊥) → d ≡ getD s at 0 - 48
     → Digits s start most first (at + 1) (left - 1) (v * 10 + d)
 unfolding digits
 digits-more s start most first at zero v w h e t n q = absurd (n refl)
-digits-more s start most first at (suc left) v {r} w h e t n q =
+digits-more s start most first at (suc left) v {r} {d} w h e t n q =
     let p : suc left - 1 ≡ left = omega arith in
-    rw (p, q, add-one) (rw (drop-cons s at 0 h, sym e ∙ not-false r t, digits) at w)
+    digits-next s (suc left - 1) (v * 10 + d) at h
+    ∙ rw (p, q, add-one) (rw (drop-cons s at 0 h, sym e ∙ not-false r t, digits) at w)
 
 -- ---- a number
 
 module _ (s : List ℕ) (at : ℕ) where
-  pub number-none : length s ≤ at → malformed ≡ number (drop at s)
+  pub number-none : length s ≤ at → Malformed ≡ numeralAt s at (number (drop at s))
   unfolding number
   number-none h = rw (drop-of-length-le s {i = at} h)
 
   module _ {r : Bool} (h : at < length s) (e : r ≡ isDigit (getD s at 0)) where
-    pub number-other : not r ≡ true → malformed ≡ number (drop at s)
+    pub number-other : not r ≡ true → Malformed ≡ numeralAt s at (number (drop at s))
     unfolding number
     number-other t = rw (drop-cons s at 0 h, sym e ∙ not-true r t, number)
 
     module _ (a : Numeral) (t : not r ≡ false) where
-      pub number-zero : getD s at 0 ≡ 48 → numeralOf s a ≡ digits 0 0 (drop (at + 1) s) → numeralOf s a ≡ number (drop at s)
+      first-zero : getD s at 0 ≡ 48 → number (drop at s) ≡ digits 0 0 (drop (at + 1) s)
       unfolding number
-      number-zero z w = w ∙ sym (rw (add-one, drop-cons s at 0 h, sym e ∙ not-false r t, number) (rw z refl))
+      first-zero z = rw (add-one, drop-cons s at 0 h, sym e ∙ not-false r t, number) (rw z refl)
 
-      pub number-more : {d : ℕ} → (getD s at 0 ≡ 48 → ⊥) → d ≡ getD s at 0 - 48 → numeralOf s a ≡ digits 5 d (drop (at + 1) s)
-          → numeralOf s a ≡ number (drop at s)
+      first-other : {d : ℕ} → (getD s at 0 ≡ 48 → ⊥) → d ≡ getD s at 0 - 48 → number (drop at s) ≡ digits 5 d (drop (at + 1) s)
       unfolding number
-      number-more n q w =
-          w ∙ sym (rw (add-one, drop-cons s at 0 h, sym e ∙ not-false r t, q, number) (rw (ne-eqb (getD s at 0) 48 n) refl))
+      first-other n q = rw (add-one, drop-cons s at 0 h, sym e ∙ not-false r t, q, number) (rw (ne-eqb (getD s at 0) 48 n) refl)
+
+      pub number-zero : getD s at 0 ≡ 48 → a ≡ numeralAt s (at + 1) (digits 0 0 (drop (at + 1) s))
+          → a ≡ numeralAt s at (number (drop at s))
+      number-zero z w = w ∙ digits-next s 0 0 at h ∙ ap (numeralAt s at) (sym (first-zero z))
+
+      pub number-more : {d : ℕ} → (getD s at 0 ≡ 48 → ⊥) → d ≡ getD s at 0 - 48 → a ≡ numeralAt s (at + 1) (digits 5 d (drop (at + 1) s))
+          → a ≡ numeralAt s at (number (drop at s))
+      number-more {d} n q w = w ∙ digits-next s 5 d at h ∙ ap (numeralAt s at) (sym (first-other n q))

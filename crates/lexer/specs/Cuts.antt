@@ -1,10 +1,11 @@
 -- What the functions that cut numbers and lines off a text answer, in the words of Text.antt: a position stands for what follows it.
-use Prim.Native.Nat.{ℕ}
+use Prim.Native.Nat.{ℕ, zero, suc, _+_, _-_}
 use mathlib.Core.Option.{Option, none, some}
-use mathlib.Core.List.{List, [], _∷_}
-use lib.ListN.{take, drop}
+use mathlib.Core.List.{List, [], _∷_, _++_}
+use lib.ListN.{length, drop}
 use Rattle.orm.specs.Diagram as orm
 use Rattle.orm.specs.Reader.{Cut, broken, cut}
+use Rattle.orm.specs.Form.{fields}
 use Rattle.orm.specs.Text as text
 use Rattle.lexer.specs.declared.Kind.{Kind}
 use Rattle.lexer.specs.declared.Kind.the-variants.{DiagramLine, TypesLine, TypeLine, PredsLine, PredLine, RoleLine, FreqLine, EndLine}
@@ -23,18 +24,22 @@ kindOf RoleLine = orm.roleLine
 kindOf FreqLine = orm.freqLine
 kindOf EndLine = orm.endLine
 
-abbrev pub numeralOf : List ℕ → Numeral → text.Numeral
-numeralOf s Malformed = text.malformed
-numeralOf s (Value v at) = text.numeral v (drop at s)
+-- The position behind what is taken off the text from `at` on, so that `rest` is left
+abbrev pub behind : List ℕ → ℕ → List ℕ → ℕ
+behind s at rest = at + (length (drop at s) - length rest)
 
-abbrev pub foundOf : List ℕ → Found → Option (List ℕ)
-foundOf s (To at) = some (drop at s)
-foundOf s Nothing = none
+abbrev pub numeralAt : List ℕ → ℕ → text.Numeral → Numeral
+numeralAt s at text.malformed = Malformed
+numeralAt s at (text.numeral v rest) = Value v (behind s at rest)
 
--- the numbers `vs` of a line, and what follows it
-abbrev pub cutOf : List ℕ → List ℕ → Found → Cut
-cutOf s vs (To at) = cut vs (drop at s)
-cutOf s vs Nothing = broken
+abbrev pub foundAt : List ℕ → ℕ → Option (List ℕ) → Found
+foundAt s at none = Nothing
+foundAt s at (some rest) = To (behind s at rest)
+
+-- Where a line ends
+abbrev pub cutAt : List ℕ → ℕ → Cut → Found
+cutAt s at broken = Nothing
+cutAt s at (cut vs rest) = To (behind s at rest)
 
 abbrev pub separatorKey : ℕ → List ℕ
 separatorKey left = text.separator left ∷ []
@@ -60,6 +65,16 @@ fieldsOf RoleLine = 3
 fieldsOf FreqLine = 2
 fieldsOf EndLine = 1
 
--- A line of this kind, whose numbers stand at the front of `out`
-abbrev pub lineOf : Kind → List ℕ → List ℕ → Found → Cut
-lineOf kind s out f = cutOf s (take (fieldsOf kind) out) f
+-- The numbers of a line up to the first fault: of n numbers those that are well formed, each with what has to follow it
+unfoldable pub soundNumbers : ℕ → List ℕ → List ℕ
+soundNumbers zero s = []
+soundNumbers (suc n) s =
+    elim (text.number s) [
+      | text.malformed ↦ []
+      | text.numeral v s₁ ↦ elim (text.after (text.separator n ∷ []) s₁) [ none ↦ [] | some s₂ ↦ v ∷ soundNumbers n s₂ ]
+    ]
+
+-- Of a line of this kind: without its key there are none
+unfoldable pub lineNumbers : orm.LineKind → List ℕ → List ℕ
+lineNumbers k s =
+    elim (text.after (text.bytes (text.key k) ++ 61 ∷ []) s) [ none ↦ [] | some rest ↦ soundNumbers (fields k) rest ]

@@ -4,11 +4,11 @@ use crate::Kind;
 ghost use mathlib.Core.Path.{_≡_};
 ghost use lib.ListN.{drop};
 ghost use Rattle.orm.specs.Text.{after};
-ghost use Rattle.lexer.specs.Cuts.{foundOf, separatorKey, keyOf};
+ghost use Rattle.lexer.specs.Cuts.{foundAt, separatorKey, keyOf};
 
 // Where `key` ends that starts at `start`.
 fn behind(key: &[u8], text: &[u8], start: usize) -> Found
-    ensures { λ r. ⌜ foundOf (now (text .entry)) r ≡ after (now (key .entry)) (drop start (now (text .entry))) ⌝ }
+    ensures { λ r. ⌜ r ≡ foundAt (now (text .entry)) start (after (now (key .entry)) (drop start (now (text .entry)))) ⌝ }
 {
     let mut i = 0;
     let mut at = start;
@@ -27,7 +27,7 @@ fn behind(key: &[u8], text: &[u8], start: usize) -> Found
 
 // What follows a number that `left` more follow on its line: a comma, or the line feed.
 pub fn behind_separator(left: usize, text: &[u8], at: usize) -> Found
-    ensures { λ r. ⌜ foundOf (now (text .entry)) r ≡ after (separatorKey left) (drop at (now (text .entry))) ⌝ }
+    ensures { λ r. ⌜ r ≡ foundAt (now (text .entry)) at (after (separatorKey left) (drop at (now (text .entry)))) ⌝ }
 {
     if left == 0 {
         behind(b"\n", text, at)
@@ -38,7 +38,7 @@ pub fn behind_separator(left: usize, text: &[u8], at: usize) -> Found
 
 // Where the key of this kind of line and its `=` end.
 pub fn behind_key(kind: Kind, text: &[u8], at: usize) -> Found
-    ensures { λ r. ⌜ foundOf (now (text .entry)) r ≡ after (keyOf kind) (drop at (now (text .entry))) ⌝ }
+    ensures { λ r. ⌜ r ≡ foundAt (now (text .entry)) at (after (keyOf kind) (drop at (now (text .entry)))) ⌝ }
 {
     match kind {
         Kind::DiagramLine => behind(b"diagram=", text, at),

@@ -7,14 +7,16 @@ use crate::keys::behind_separator;
 use crate::numbers::number_at;
 ghost use mathlib.Core.Path.{_≡_};
 ghost use Prim.Native.Nat.{_+_, _≤_};
-ghost use lib.ListN.{length, take, drop};
+ghost use lib.ListN.{length, drop};
+ghost use lib.Seq.{sets};
 ghost use Rattle.orm.specs.Text.{numbers, textLine};
-ghost use Rattle.lexer.specs.Cuts.{cutOf, kindOf, fieldsOf, lineOf};
+ghost use Rattle.lexer.specs.Cuts.{cutAt, kindOf, fieldsOf, soundNumbers, lineNumbers};
 
-// The `n` numbers of a line, with commas between, and the line feed.
+// The `n` numbers of a line, with commas between, and the line feed; those before a fault are written all the same.
 fn numbers_at(n: usize, text: &[u8], start: usize, out: &mut [u32]) -> Found
     requires { ⌜ n ≤ length (now out) ⌝ }
-    ensures { λ r. ⌜ cutOf (now (text .entry)) (take n (now (out .exit))) r ≡ numbers n (drop start (now (text .entry))) ⌝ }
+    ensures { λ r. ⌜ r ≡ cutAt (now (text .entry)) start (numbers n (drop start (now (text .entry)))) ⌝ }
+    ensures { λ _. ⌜ now (out .exit) ≡ sets (now (out .entry)) 0 (soundNumbers n (drop start (now (text .entry)))) ⌝ }
 {
     let mut i = 0;
     let mut at = start;
@@ -49,10 +51,11 @@ pub fn fields_of(kind: Kind) -> usize
     }
 }
 
-// The numbers of the line of this kind that starts at `at`, and where the next line starts.
+// The numbers of the line of this kind that starts at `at` go to the front of `out`; where the next line starts.
 fn text_line(kind: Kind, text: &[u8], at: usize, out: &mut [u32]) -> Found
     requires { ⌜ fieldsOf kind ≤ length (now out) ⌝ }
-    ensures { λ r. ⌜ lineOf kind (now (text .entry)) (now (out .exit)) r ≡ textLine (kindOf kind) (drop at (now (text .entry))) ⌝ }
+    ensures { λ r. ⌜ r ≡ cutAt (now (text .entry)) at (textLine (kindOf kind) (drop at (now (text .entry)))) ⌝ }
+    ensures { λ _. ⌜ now (out .exit) ≡ sets (now (out .entry)) 0 (lineNumbers (kindOf kind) (drop at (now (text .entry)))) ⌝ }
 {
     let Found::To(values) = behind_key(kind, text, at) else {
         return Found::Nothing;
@@ -60,11 +63,12 @@ fn text_line(kind: Kind, text: &[u8], at: usize, out: &mut [u32]) -> Found
     numbers_at(fields_of(kind), text, values, out)
 }
 
-// The same; the numbers go to the table at `end`.
+// The numbers of the line of this kind that starts at `at` go to the table at `end`, those before a fault too; where the next
+// line starts.
 pub fn write_line(kind: Kind, text: &[u8], at: usize, table: &mut [u32], end: usize) -> Found
     requires { ⌜ end + fieldsOf kind ≤ length (now table) ⌝ }
-    ensures { λ r. ⌜ lineOf kind (now (text .entry)) (drop end (now (table .exit))) r ≡ textLine (kindOf kind) (drop at (now (text .entry))) ⌝ }
-    ensures { λ _. ⌜ take end (now (table .exit)) ≡ take end (now (table .entry)) ⌝ }
+    ensures { λ r. ⌜ r ≡ cutAt (now (text .entry)) at (textLine (kindOf kind) (drop at (now (text .entry)))) ⌝ }
+    ensures { λ _. ⌜ now (table .exit) ≡ sets (now (table .entry)) end (lineNumbers (kindOf kind) (drop at (now (text .entry)))) ⌝ }
 {
     text_line(kind, text, at, &mut table[end..])
 }

@@ -3,19 +3,20 @@ use Prim.Native.Nat.{ℕ, _+_, _≤_, _<_}
 use native.Mathlib.Omega.{arith}
 use mathlib.Core.Path.{_≡_, refl, sym, ap, ap₂, _∙_}
 use mathlib.Core.Bool.{true}
-use mathlib.Core.List.{List, _++_}
+use mathlib.Core.List.{List, _++_, append-assoc}
 use mir.Syntax.{w64}
 use mir.Val.{Fits}
 use lib.ListN.{length, take, drop, length-drop}
-use lib.Seq.{length-take-le, take-add, drop-drop}
+use lib.Seq.{length-take-le, take-add, take-at, drop-at, drop-drop, sets, sets-eq, length-sets}
 use Rattle.orm.specs.Diagram.{LineKind}
 use Rattle.orm.specs.Reader.{Cut, broken, cut}
 use Rattle.orm.specs.Text.{textLine, tableLine}
-use Rattle.reading.specs.Cutting.{table-short, table-long}
+use Rattle.reading.specs.Cutting.{text-cuts, table-short, table-long}
 use Rattle.lexer.specs.declared.Kind.{Kind}
 use Rattle.lexer.specs.declared.Found.{Found}
 use Rattle.lexer.specs.declared.Found.the-variants.{To, Nothing}
-use Rattle.lexer.specs.Cuts.{kindOf, cutOf, fieldsOf}
+use Rattle.lexer.specs.Cuts.{kindOf, cutAt, fieldsOf, lineNumbers}
+use Rattle.lexer.specs.Tails.{line-to, line-not}
 use Rattle.grammar.specs.declared.Fault.{Fault}
 use Rattle.grammar.specs.declared.Fault.the-variants.{Malformed}
 use Rattle.grammar.specs.declared.Place.{Place}
@@ -80,23 +81,54 @@ module _ (p : Place) (table : List ℕ) (end : ℕ) (h : end + fieldsAt p ≤ le
 
 -- ---- of a text
 
-module _ (p : Place) (kind : Kind) (ek : kindOf kind ≡ kindAt p) (text : List ℕ) (at : ℕ) where
-  pub text-broken : (v : List ℕ) (f : Found) (acc : List ℕ) → cutOf text v f ≡ textLine (kindOf kind) (drop at text) → f ≡ Nothing
-      → halted 1 ≡ lineStep textLine p acc (drop at text)
-  unfolding lineStep
-  text-broken v f acc e q = let c : textLine (kindAt p) (drop at text) ≡ broken = rw (ek, q) at (sym e) in rw (c, lineStep)
+-- stored numbers, and those before them
+module _ (l : List ℕ) (end : ℕ) (ws : List ℕ) (h : end + length ws ≤ length l) where
+  front : length (take end l) ≡ end
+  front = length-take-le end l (omega arith)
 
-  pub text-reached : (table table′ : List ℕ) (end : ℕ) {n next : ℕ} (f : Found) (st : Step) {r : Line}
-      → fieldsOf kind ≡ fieldsAt p → n ≡ fieldsOf kind → end + n ≤ length table′ → take end table′ ≡ take end table
-      → cutOf text (take (fieldsOf kind) (drop end table′)) f ≡ textLine (kindOf kind) (drop at text) → f ≡ To next
+  stored : sets l end ws ≡ take end l ++ (ws ++ drop (end + length ws) l)
+  stored = sets-eq ws l end h ∙ append-assoc (take end l) ws (drop (end + length ws) l)
+
+  sets-front : take end (sets l end ws) ≡ take end l
+  sets-front = ap (take end) stored ∙ take-at (take end l) (ws ++ drop (end + length ws) l) end front
+
+  sets-part : {n : ℕ} → length ws ≡ n → take n (drop end (sets l end ws)) ≡ ws
+  sets-part {n} e =
+      ap (λ (t : List ℕ). take n (drop end t)) stored
+      ∙ ap (take n) (drop-at (take end l) (ws ++ drop (end + length ws) l) end front)
+      ∙ take-at ws (drop (end + length ws) l) n e
+
+module _ (p : Place) (kind : Kind) (ek : kindOf kind ≡ kindAt p) (text : List ℕ) (at : ℕ) (f : Found)
+    (e : f ≡ cutAt text at (textLine (kindOf kind) (drop at text))) where
+  pub text-broken : (acc : List ℕ) → f ≡ Nothing → halted 1 ≡ lineStep textLine p acc (drop at text)
+  unfolding lineStep
+  text-broken acc q =
+      let c : textLine (kindAt p) (drop at text) ≡ broken = rw ek at (line-not text at (kindOf kind) (sym e ∙ q)) in
+      rw (c, lineStep)
+
+  pub text-stored : (table : List ℕ) (end : ℕ) {table′ : List ℕ} → table′ ≡ sets table end (lineNumbers (kindOf kind) (drop at text))
+      → table′ ≡ sets table end (lineNumbers (kindAt p) (drop at text))
+  text-stored table end w = w ∙ rw ek
+
+  pub text-reached : (table table′ : List ℕ) (end : ℕ) {n next : ℕ} (st : Step) {r : Line}
+      → fieldsOf kind ≡ fieldsAt p → n ≡ fieldsOf kind → end + n ≤ length table′
+      → table′ ≡ sets table end (lineNumbers (kindOf kind) (drop at text)) → f ≡ To next
       → stepOf st ≡ stepAt p (take end table′) (take (fieldsAt p) (drop end table′)) → r ≡ reachOf st next (end + n)
       → lineOf text table′ r ≡ lineStep textLine p (take end table) (drop at text)
-  text-reached table table′ end {n} {next} f st ef en l t e q s er =
+  text-reached table table′ end {n} {next} st ef en l t q s er =
+      let v = lineNumbers (kindAt p) (drop at text) in
+      let c : textLine (kindAt p) (drop at text) ≡ cut v (drop next text) = rw ek at (line-to text at (kindOf kind) (sym e ∙ q)) in
+      let many : length v ≡ fieldsAt p = text-cuts .only (kindAt p) (drop at text) v (drop next text) c .0 ∙ fields-at p in
+      let t′ : table′ ≡ sets table end v = text-stored table end t in
+      let long : length table′ ≡ length table = ap length t′ ∙ length-sets table end v in
+      let room : end + length v ≤ length table = omega arith in
       let h : end + fieldsAt p ≤ length table′ = omega arith in
-      let v = take (fieldsAt p) (drop end table′) in
-      let c : textLine (kindAt p) (drop at text) ≡ cut v (drop next text) = rw (ek, q, ef) at (sym e) in
-      rw (er, en, ef, ← t)
-      (led textLine p (take end table′) (drop at text) v text table′ next (end + fieldsAt p) st c s
+      let before : take end table′ ≡ take end table = ap (take end) t′ ∙ sets-front table end v room in
+      let part : take (fieldsAt p) (drop end table′) ≡ v =
+      ap (λ (x : List ℕ). take (fieldsAt p) (drop end x)) t′ ∙ sets-part table end v room many in
+      rw (er, en, ef, ← before)
+      (led textLine p (take end table′) (drop at text) (take (fieldsAt p) (drop end table′)) text table′ next (end + fieldsAt p) st
+      (c ∙ ap (λ (x : List ℕ). cut x (drop next text)) (sym part)) s
       (so-far p table′ end h) (so-many p table′ end h))
 
 -- ---- of a table

@@ -16,10 +16,12 @@ use lexer::lines::write_line;
 ghost use mathlib.Core.Path.{_≡_};
 ghost use mathlib.Core.Bool.{true};
 ghost use Prim.Native.Nat.{_≤_};
-ghost use lib.ListN.{length};
+ghost use lib.ListN.{length, drop};
+ghost use lib.Seq.{sets};
 ghost use Rattle.orm.specs.Text.{textLine, tableLine};
 ghost use Rattle.orm.specs.Calls.{diagramIn};
-ghost use Rattle.grammar.specs.Place.{isGoing};
+ghost use Rattle.lexer.specs.Cuts.{lineNumbers};
+ghost use Rattle.grammar.specs.Place.{kindAt, isGoing};
 ghost use Rattle.grammar.specs.Room.{Room};
 ghost use Rattle.reader.specs.Reach.{reachOf, lineOf, stepFrom, refusalOf, Level};
 ghost use Rattle.reader.specs.Lines.{linesOf, summarised, Inside};
@@ -34,12 +36,13 @@ fn reach(step: Step, at: usize, end: usize) -> Line
     }
 }
 
-// The line of the text at `at`; its numbers go to the table at `end`.
+// The line of the text at `at`; its numbers go to the table at `end`, those before a fault too.
 fn text_step(place: Place, text: &[u8], at: usize, table: &mut [u32], end: usize) -> Line
     requires { ⌜ Room place end ⌝ }
     requires { ⌜ isGoing place ≡ true ⌝ }
     requires { ⌜ length (now table) ≡ 708 ⌝ }
     ensures { λ r. ⌜ lineOf (now (text .entry)) (now (table .exit)) r ≡ stepFrom textLine place (now (table .entry)) end (now (text .entry)) at ⌝ }
+    ensures { λ _. ⌜ now (table .exit) ≡ sets (now (table .entry)) end (lineNumbers (kindAt place) (drop at (now (text .entry)))) ⌝ }
 {
     let kind = kind_at(place);
     let Found::To(next) = write_line(kind, text, at, table, end) else {

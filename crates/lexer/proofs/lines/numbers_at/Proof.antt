@@ -4,12 +4,13 @@ use Prim.Native.Nat.{_≤_, _-_}
 use mathlib.Core.Path.{_≡_}
 use lib.ListN.{length}
 use Rattle.lexer.proofs.Fields.{Numbers, numbers-start, numbers-end, numbers-malformed, numbers-unended, numbers-more}
+use Rattle.lexer.proofs.Fields.{stored-end, stored-malformed, stored-unended}
 use borrow.Author.Needs.{needs}
 use Rattle.lexer.proofs.lines.numbers_at.Statement.{statement}
 use Rattle.lexer.proofs.lines.numbers_at.Tie as tie
 
 abbrev Inv-loop : tie.InvT-loop
-Inv-loop n text start out₀ i₀ at₀ out i at = (i ≤ n) × (length out ≡ length out₀) × Numbers text n start i at out
+Inv-loop n text start out₀ i₀ at₀ out i at = (i ≤ n) × (length out ≡ length out₀) × Numbers text n start i at out₀ out
 
 abbrev μ-loop : tie.MeasureT-loop
 μ-loop n text start out₀ i₀ at₀ out i at = n - i
@@ -25,18 +26,18 @@ numbers-at-spec =
     (λ c. search needs)
     (λ c. search needs)
     (λ c. search needs)
-    (λ c. search (needs, numbers-malformed))
+    (λ c. search (needs, numbers-malformed, stored-malformed))
     (λ c. search needs)
     (λ c. search needs)
     (λ c κs. search needs)
     (λ c. search needs)
     (λ c. search needs)
     (λ c. search needs)
-    (λ c. search (needs, numbers-unended))
+    (λ c. search (needs, numbers-unended, stored-unended))
     (λ c. search needs)
     (λ c. search needs)
     (λ c. search needs)
     (λ c. search needs)
     (λ c. search (needs, numbers-more))
     (λ c. search needs)
-    (λ c. search (needs, numbers-end)))
+    (λ c. search (needs, numbers-end, stored-end)))

@@ -1,6 +1,6 @@
 -- `lexer::lines::text_line` meets its contract. The key, then the numbers.
 -- Assumes nothing.
-use Rattle.lexer.proofs.Fields.{line-none, line-some}
+use Rattle.lexer.proofs.Fields.{line-none, stored-none, line-some, stored-some}
 use borrow.Author.Needs.{needs}
 use Rattle.lexer.proofs.lines.text_line.Statement.{statement}
 use Rattle.lexer.proofs.lines.text_line.Tie as tie
@@ -12,8 +12,8 @@ text-line-spec =
     (λ c κs. search needs)
     (λ c. search needs)
     (λ c. search needs)
-    (λ c. search (needs, line-none))
+    (λ c. search (needs, line-none, stored-none))
     (λ c κs. search needs)
     (λ c κs. search needs)
     (λ c. search needs)
-    (λ c. search (needs, line-some)))
+    (λ c. search (needs, line-some, stored-some)))

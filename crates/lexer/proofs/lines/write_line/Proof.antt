@@ -1,6 +1,6 @@
 -- `lexer::lines::write_line` meets its contract.
 -- Assumes nothing.
-use Rattle.lexer.proofs.Parts.{put-kept, put-cut}
+use Rattle.lexer.proofs.Parts.{put-line}
 use borrow.Author.Needs.{needs}
 use Rattle.lexer.proofs.lines.write_line.Statement.{statement}
 use Rattle.lexer.proofs.lines.write_line.Tie as tie
@@ -15,4 +15,4 @@ write-line-spec =
     (λ c. search needs)
     (λ c κs. search needs)
     (λ c. search needs)
-    (λ c. search (needs, put-kept, put-cut)))
+    (λ c. search (needs, put-line)))

@@ -1,6 +1,6 @@
 -- `reader::walk::text_step` meets its contract.
 -- Assumes nothing.
-use Rattle.reader.proofs.Steps.{room-write, room-fits, room-check, fields-same, text-broken, text-reached}
+use Rattle.reader.proofs.Steps.{room-write, room-fits, room-check, fields-same, text-broken, text-stored, text-reached}
 use borrow.Author.Needs.{needs}
 use Rattle.reader.proofs.walk.text_step.Statement.{statement}
 use Rattle.reader.proofs.walk.text_step.Tie as tie
@@ -14,10 +14,10 @@ text-step-spec =
     (λ c. search needs)
     (λ c. search needs)
     (λ c. search needs)
-    (λ c. search (needs, text-broken))
+    (λ c. search (needs, text-broken, text-stored))
     (λ c κs. search needs)
     (λ c. search (needs, room-fits))
     (λ c κs. search (needs, room-check, fields-same))
     (λ c κs. search needs)
     (λ c. search needs)
-    (λ c. search (needs, text-reached, room-check)))
+    (λ c. (search (needs, text-reached, room-check), search (needs, text-stored))))

@@ -3,3 +3,4 @@ pub mod Cuts
 pub mod Places
 pub mod Extents
 pub mod Standing
+pub mod Columns

@@ -14,6 +14,7 @@ ghost use Rattle.columns.specs.Reach.{Reached};
 ghost use Rattle.blocks.specs.Blocks.{blockLength, blockFits, membersAt, rowsAt, behind, behindTypes, populationAt, predWidth, endOf, extentOf};
 ghost use Rattle.blocks.specs.Cuts.{TypesEnd};
 ghost use Rattle.blocks.specs.Places.{RowsHere, ColumnHere};
+ghost use Rattle.blocks.specs.Columns.{startOf, membersColumn, roleColumn, typeColumn};
 
 // Where blocks end, or that one is short.
 pub enum End {
@@ -124,6 +125,7 @@ pub fn cut(t: &[u32], cells: &[u32]) -> Extent
 // Where the block behind the first `types` types starts.
 fn behind(cells: &[u32], types: u32) -> usize
     ensures { λ r. ⌜ drop r (now (cells .entry)) ≡ behind (replicate types 1) (now (cells .entry)) ⌝ }
+    ensures { λ r. ⌜ r ≤ length (now (cells .entry)) ⌝ }
 {
     let mut at = 0;
     let mut left = types;
@@ -138,6 +140,7 @@ fn behind(cells: &[u32], types: u32) -> usize
 pub fn first_rows(t: &[u32], cells: &[u32]) -> usize
     requires { ⌜ Walkable (now t) ⌝ }
     ensures { λ r. ⌜ drop r (now (cells .entry)) ≡ behindTypes (diagramOf (now (t .entry))) (now (cells .entry)) ⌝ }
+    ensures { λ r. ⌜ r ≡ startOf (now (cells .entry)) (behindTypes (diagramOf (now (t .entry))) (now (cells .entry))) ⌝ }
 {
     behind(cells, table::type_count(t))
 }
@@ -153,6 +156,7 @@ pub fn members(cells: &[u32], at: usize) -> Column
     ensures { λ r. ⌜ valuesIn (now (cells .entry)) r ≡ membersAt (drop at (now (cells .entry))) ⌝ }
     ensures { λ r. ⌜ r .count ≡ length (membersAt (drop at (now (cells .entry)))) ⌝ }
     ensures { λ r. ⌜ Reached (now (cells .entry)) r ⌝ }
+    ensures { λ r. ⌜ r ≡ membersColumn (now (cells .entry)) (drop at (now (cells .entry))) ⌝ }
 {
     let start = columns::next(cells, at, 1);
     let size = columns::index(columns::cell(cells, at, 0));
@@ -187,6 +191,7 @@ pub fn members_of(t: &[u32], cells: &[u32], number: u32) -> Column
     requires { ⌜ Walkable (now t) ⌝ }
     ensures { λ r. ⌜ valuesIn (now (cells .entry)) r ≡ membersOf (populationAt (diagramOf (now (t .entry))) (now (cells .entry))) number ⌝ }
     ensures { λ r. ⌜ Reached (now (cells .entry)) r ⌝ }
+    ensures { λ r. ⌜ r ≡ typeColumn (diagramOf (now (t .entry))) (now (cells .entry)) number ⌝ }
 {
     let i = before(number);
     if i < table::type_count(t) {
@@ -214,6 +219,7 @@ pub fn column(cells: &[u32], at: usize, width: usize, j: usize) -> Column
     requires { ⌜ j < width ⌝ }
     ensures { λ r. ⌜ valuesIn (now (cells .entry)) r ≡ column j (rowsAt width (drop at (now (cells .entry)))) ⌝ }
     ensures { λ r. ⌜ ColumnHere (now (cells .entry)) at width r ⌝ }
+    ensures { λ r. ⌜ r ≡ roleColumn (now (cells .entry)) (drop at (now (cells .entry))) width j ⌝ }
 {
     let first = columns::next(cells, at, 1);
     let start = columns::next(cells, first, j);

@@ -1,6 +1,7 @@
 -- `blocks::first_rows` meets its contract. It stands behind all types.
 -- Assumes nothing.
 use Rattle.blocks.specs.Places.{behind-all}
+use Rattle.blocks.specs.Columns.{first-rows}
 use borrow.Author.Needs.{needs}
 use Rattle.blocks.proofs.first_rows.Statement.{statement}
 use Rattle.blocks.proofs.first_rows.Tie as tie
@@ -11,4 +12,4 @@ first-rows-spec =
     (tie.spec
     (λ c κs. search needs)
     (λ c κs. search needs)
-    (λ c. search (needs, behind-all)))
+    (λ c. search (needs, behind-all, first-rows)))

@@ -1,6 +1,7 @@
 -- `blocks::members` meets its contract. As many as the size cell says, and no more than there are.
 -- Assumes nothing.
 use Rattle.blocks.specs.Places.{members-are, members-count, members-reached}
+use Rattle.blocks.specs.Columns.{members-column}
 use borrow.Author.Needs.{needs}
 use Rattle.blocks.proofs.members.Statement.{statement}
 use Rattle.blocks.proofs.members.Tie as tie
@@ -14,4 +15,4 @@ members-spec =
     (λ c κs. search needs)
     (λ c. search needs)
     (λ c κs. search needs)
-    (λ c. search (needs, members-are, members-count, members-reached)))
+    (λ c. search (needs, members-are, members-count, members-reached, members-column)))

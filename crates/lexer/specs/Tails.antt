@@ -206,7 +206,7 @@ module _ (s : List ℕ) (at : ℕ) where
 
 -- ---- a line
 
-line-sound : (k : LineKind) (t vs rest : List ℕ) → textLine k t ≡ cut vs rest → (lineNumbers k t ≡ vs) × Tail rest t
+pub line-sound : (k : LineKind) (t vs rest : List ℕ) → textLine k t ≡ cut vs rest → (lineNumbers k t ≡ vs) × Tail rest t
 unfolding textLine lineNumbers
 line-sound k t vs rest e = go (after (bytes (key k) ++ 61 ∷ []) t) refl e
   where

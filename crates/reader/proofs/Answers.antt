@@ -10,9 +10,7 @@ use Rattle.orm.specs.Outcome.{Outcome, refused, accepted, lengthOf, fitted, buf
 use Rattle.orm.specs.Calls.{diagramIn, readCall}
 use Rattle.reading.specs.Walk.{Summary, summary}
 use Rattle.grammar.specs.declared.Fault.{Fault}
-use Rattle.grammar.specs.declared.Counts.{Counts}
 use Rattle.grammar.specs.Fault.{numberOf}
-use Rattle.grammar.specs.Place.{totalsOf}
 use Rattle.reader.specs.declared.Line.{Line}
 use Rattle.reader.specs.declared.Line.the-variants.{Halted, Reached}
 use Rattle.reader.specs.declared.Lines.{Lines}
@@ -22,7 +20,7 @@ use Rattle.reader.specs.Answer.{conversionOf, totalled}
 use Rattle.reader.specs.Lines.{summarised, linesOf, InsideAt, Inside}
 use Rattle.reader.specs.Reach.{refusalOf}
 
-was-refused : (o : Outcome Diagram) (c p : ℕ) → refused c p 0 ≡ summarised o → o ≡ refused c p 0
+pub was-refused : (o : Outcome Diagram) (c p : ℕ) → refused c p 0 ≡ summarised o → o ≡ refused c p 0
 was-refused (refused c′ p′ r) c p e = sym (ap same e)
   where
     same : Outcome Summary → Outcome Diagram
@@ -30,7 +28,7 @@ was-refused (refused c′ p′ r) c p e = sym (ap same e)
     same (accepted a) = refused 0 0 0
 was-refused (accepted d) c p e = let z : _≡_ {A = ℕ} 0 1 = cc in absurd (omega arith)
 
-was-accepted : (o : Outcome Diagram) (s : Summary) → accepted s ≡ summarised o → (d : Diagram) × (o ≡ accepted d) × (s ≡ summary d)
+pub was-accepted : (o : Outcome Diagram) (s : Summary) → accepted s ≡ summarised o → (d : Diagram) × (o ≡ accepted d) × (s ≡ summary d)
 was-accepted (refused c p r) s e = let z : _≡_ {A = ℕ} 0 1 = cc in absurd (omega arith)
 was-accepted (accepted d) s e = (d, refl, cc)
 
@@ -38,8 +36,9 @@ module _ (numbers : List ℕ) (l : Lines) (o : Outcome Diagram) (e : linesOf num
   faulty : {f : Fault} {line : ℕ} → l ≡ Faulty f line → o ≡ refused (numberOf f) line 0
   faulty {f} {line} q = was-refused o (numberOf f) line (subst (λ (k : Lines). linesOf numbers k ≡ summarised o) q e)
 
-  whole : {n : ℕ} {c : Counts} → l ≡ Whole n c
-      → (d : Diagram) × (o ≡ accepted d) × (record { numbers = take n numbers; totals = totalsOf c } ≡ summary d)
+  whole : {n types preds roles groups : ℕ} → l ≡ Whole n types preds roles groups
+      → (d : Diagram) × (o ≡ accepted d)
+      × (record { numbers = take n numbers; totals = record { types = types; preds = preds; roles = roles; groups = groups } } ≡ summary d)
   whole q = was-accepted o _ (subst (λ (k : Lines). linesOf numbers k ≡ summarised o) q e)
 
 -- ---- read
@@ -57,7 +56,7 @@ module _ (text numbers : List ℕ) (l : Lines) (e : linesOf numbers l ≡ summar
     unfolding bufferAfter
     refused-kept t = sym (ap (λ (o : Outcome (List ℕ)). bufferAfter o t) (call-refused (length t)))
 
-  module _ {n : ℕ} {c : Counts} (q : l ≡ Whole n c) where
+  module _ {n types preds roles groups : ℕ} (q : l ≡ Whole n types preds roles groups) where
     call-fitted : (space : ℕ) → fitted space (take n numbers) ≡ readCall text space
     unfolding readCall summary
     call-fitted space =
@@ -75,10 +74,10 @@ module _ (text numbers : List ℕ) (l : Lines) (e : linesOf numbers l ≡ summar
 
 -- ---- the numbers stand within the local table
 
-pub inside : (numbers numbers′ : List ℕ) {l : Lines} {n : ℕ} {c : Counts} → Inside 708 l → l ≡ Whole n c → length numbers ≡ 708
-    → length numbers′ ≡ length numbers → n ≤ length numbers′
-inside numbers numbers′ {l} {n} {c} w q h k =
-    let x : InsideAt 708 (Whole n c) = subst (λ (m : Lines). InsideAt 708 m) q (w .at) in
+pub inside : (numbers numbers′ : List ℕ) {l : Lines} {n types preds roles groups : ℕ} → Inside 708 l → l ≡ Whole n types preds roles groups
+    → length numbers ≡ 708 → length numbers′ ≡ length numbers → n ≤ length numbers′
+inside numbers numbers′ {l} {n} {types} {preds} {roles} {groups} w q h k =
+    let x : InsideAt 708 (Whole n types preds roles groups) = subst (λ (m : Lines). InsideAt 708 m) q (w .at) in
     omega arith
 
 pub inside-refusal : (line : Line) (n : ℕ) {r : Lines} → r ≡ refusalOf line n → Inside 708 r
@@ -91,8 +90,8 @@ inside-refusal line n e = rw e (go line)
 pub inside-faulty : (f : Fault) (line : ℕ) → Inside 708 (Faulty f line)
 inside-faulty f line = record { at = tt }
 
-pub inside-whole : (n : ℕ) (c : Counts) → n ≤ 708 → Inside 708 (Whole n c)
-inside-whole n c h = record { at = h }
+pub inside-whole : (n types preds roles groups : ℕ) → n ≤ 708 → Inside 708 (Whole n types preds roles groups)
+inside-whole n types preds roles groups h = record { at = h }
 
 -- ---- form
 
@@ -100,8 +99,8 @@ module _ (t : List ℕ) (l : Lines) (e : linesOf t l ≡ summarised (diagramIn t
   pub form-refused : {f : Fault} {line : ℕ} → l ≡ Faulty f line → refused (numberOf f) line 0 ≡ totalled (diagramIn tableLine t)
   form-refused q = rw (faulty t l (diagramIn tableLine t) e q)
 
-  pub form-accepted : {n : ℕ} {c : Counts} → l ≡ Whole n c
-      → accepted (record { types = c .types; preds = c .preds; roles = c .roles; groups = c .groups }) ≡ totalled (diagramIn tableLine t)
+  pub form-accepted : {n types preds roles groups : ℕ} → l ≡ Whole n types preds roles groups
+      → accepted (record { types = types; preds = preds; roles = roles; groups = groups }) ≡ totalled (diagramIn tableLine t)
   unfolding summary
   form-accepted q =
       let w = whole t l (diagramIn tableLine t) e q in

@@ -1,7 +1,7 @@
 -- What the two loops over the lines need, turn by turn.
 use Prim.Native.Nat.{ℕ, suc, _+_, _-_, _≤_, _<_}
 use native.Mathlib.Omega.{arith}
-use mathlib.Core.Path.{_≡_, refl, sym, _∙_, subst}
+use mathlib.Core.Path.{_≡_, refl, sym, ap, _∙_, subst}
 use mathlib.Core.Bool.{Bool, true, false}
 use mathlib.Core.Option.{Option, none, some}
 use mathlib.Core.List.{List, _∷_, _++_}
@@ -13,9 +13,11 @@ use Rattle.orm.specs.Diagram.{LineKind}
 use Rattle.orm.specs.Reader.{Cut, broken, cut}
 use Rattle.orm.specs.Form.{_unless_, firstOf, ranges, inRanges}
 use Rattle.orm.specs.Text.{tableLine}
-use Rattle.orm.specs.Outcome.{refused, accepted}
+use Rattle.orm.specs.Diagram.{Diagram, Totals, totals, table as tableOf}
+use Rattle.orm.specs.Outcome.{Outcome, refused, accepted}
 use Rattle.orm.specs.Calls.{diagramIn}
 use Rattle.reading.specs.Lines.{Cuts}
+use Rattle.reading.specs.Walk.{Summary, summary}
 use Rattle.grammar.specs.declared.Fault.{Fault}
 use Rattle.grammar.specs.declared.Counts.{Counts}
 use Rattle.grammar.specs.declared.Place.{Place}
@@ -23,13 +25,15 @@ use Rattle.grammar.specs.declared.Place.the-variants.{AtDiagram}
 use Rattle.grammar.specs.Place.{kindAt, isGoing, countsAt, totalsOf, fieldsAt}
 use Rattle.grammar.specs.Step.{testsAt, nextAt, refusing, going, stepped, stepAt}
 use Rattle.grammar.specs.Room.{Known, Room}
+use Rattle.grammar.specs.Fault.{numberOf}
 use Rattle.grammar.specs.Laws.Room.{fields-at, some-fields, room-most, line-room, next-known}
 use Rattle.reader.specs.declared.Line.{Line}
 use Rattle.reader.specs.declared.Line.the-variants.{Halted, Reached}
 use Rattle.reader.specs.declared.Lines.{Lines}
-use Rattle.reader.specs.Lines.{summarised, linesOf}
+use Rattle.reader.specs.Lines.{ended, endOf, summarised, linesOf}
 use Rattle.reader.specs.Reach.{Reach, halted, reached, lineOf, lineStep, refusalOf, LevelAt, Level}
 use Rattle.reader.proofs.Running.{Running, halts, goes-on, runs-on, ends}
+use Rattle.reader.proofs.Answers.{was-refused, was-accepted}
 
 pub is-going : (p : Place) {b : Bool} → b ≡ isGoing p → b ≡ true → isGoing p ≡ true
 is-going p e t = sym e ∙ t
@@ -101,6 +105,21 @@ led next cuts p acc s q acc′ end e rest la w g eq = go (next (kindAt p) s) ref
         fine v r (cuts .only (kindAt p) s v r c .0 ∙ fields-at p)
         (firstOf (2 unless inRanges (ranges (kindAt p)) v ∷ testsAt p acc v)) refl x
 
+-- ---- the answer, from what is told with the numbers
+
+refused-ended : (o : Outcome Diagram) (c line : ℕ) → refused c line 0 ≡ summarised o → refused c line 0 ≡ ended o
+refused-ended o c line e = sym (ap ended (was-refused o c line e))
+
+accepted-ended : (o : Outcome Diagram) (table : List ℕ) (end : ℕ) (t : Totals) → length (take end table) ≡ end
+    → accepted (record { numbers = take end table; totals = t }) ≡ summarised o
+    → accepted (record { tableLength = end; totals = t }) ≡ ended o
+unfolding summary
+accepted-ended o table end t front e =
+    let w = was-accepted o (record { numbers = take end table; totals = t }) e in
+    let n : end ≡ length (tableOf (w .0)) = sym front ∙ ap (λ (s : Summary). length (s .numbers)) (w .2) in
+    let q : t ≡ totals (w .0) = ap (λ (s : Summary). s .totals) (w .2) in
+    rw (w .1) (λ i. accepted (record { tableLength = n i; totals = q i }))
+
 -- ---- a turn, whether over a text or over a table: `table′` holds the numbers after it
 
 module _ {form : LineKind → List ℕ → List ℕ} (next : LineKind → List ℕ → Cut) (source table table′ : List ℕ) (p : Place) (at end : ℕ)
@@ -136,6 +155,14 @@ module _ {form : LineKind → List ℕ → List ℕ} (next : LineKind → List �
       (halts next cuts source p (take end table) (drop at source) number run f (is-going p eb tb)
       (subst (λ (l : Line). lineOf source table′ l ≡ lineStep next p (take end table) (drop at source)) el step))
 
+  pub ended-halted : (number : ℕ) {f : Fault} {r : Lines} → Running next source p (take end table) number (drop at source)
+      → line ≡ Halted f → r ≡ refusalOf line number → endOf r ≡ ended (diagramIn next source)
+  ended-halted number {f} run el er =
+      rw (er, el)
+      (refused-ended (diagramIn next source) (numberOf f) number
+      (halts next cuts source p (take end table) (drop at source) number run f (is-going p eb tb)
+      (subst (λ (l : Line). lineOf source table′ l ≡ lineStep next p (take end table) (drop at source)) el step)))
+
 pub turn-level : (table : List ℕ) (q : Place) (acc : List ℕ) (number at′ e : ℕ) (line : Line) → Level (length table) line
     → line ≡ Reached q at′ e → Running tableLine table q acc number (drop at′ table) → Running tableLine table q acc number (drop e table)
 turn-level table q acc number at′ e line v el run =
@@ -151,6 +178,13 @@ module _ {form : LineKind → List ℕ → List ℕ} (next : LineKind → List �
       runs-on next cuts source p (take end table) (drop at source) number run (getD source at 0) (drop (suc at) source) (sym eb ∙ tb)
       (drop-cons source at 0 h)
 
+  pub ended-surplus : at < length source → refused 1 number 0 ≡ ended (diagramIn next source)
+  ended-surplus h = refused-ended (diagramIn next source) 1 number (surplus h)
+
   pub whole : {c : Counts} → length source ≤ at → c ≡ countsAt p
       → accepted (record { numbers = take end table; totals = totalsOf c }) ≡ summarised (diagramIn next source)
   whole {c} h ec = ends next cuts source p (take end table) (drop at source) number run c (sym eb ∙ tb) ec (drop-of-length-le source h)
+
+  pub ended-whole : {c : Counts} → length (take end table) ≡ end → length source ≤ at → c ≡ countsAt p
+      → accepted (record { tableLength = end; totals = totalsOf c }) ≡ ended (diagramIn next source)
+  ended-whole {c} front h ec = accepted-ended (diagramIn next source) table end (totalsOf c) front (whole h ec)

@@ -14,7 +14,7 @@ conversionOf (reads.Accepted length) = accepted length
 conversionOf (reads.Refused f line) = refused (numberOf f) line 0
 conversionOf (reads.TooShort needed) = refused 8 needed 0
 
--- The same of a table; or what its diagram has
+-- Of each answer on a table document 01's number, place and round; or what its diagram has
 abbrev pub formOf : FormAnswer → Outcome Totals
 formOf (forms.Accepted types preds roles groups) = accepted (record { types = types; preds = preds; roles = roles; groups = groups })
 formOf (forms.Refused f line) = refused (numberOf f) line 0

@@ -1,3 +1,4 @@
 pub mod Answer
 pub mod Reach
 pub mod Lines
+pub mod Written

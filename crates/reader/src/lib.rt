@@ -6,7 +6,6 @@ mod walk;
 
 use crate::walk::read_lines;
 use crate::walk::table_lines;
-use grammar::Counts;
 use grammar::Fault;
 use grammar::Place;
 ghost use mathlib.Core.Path.{_≡_};
@@ -28,10 +27,19 @@ enum Line {
     Reached { place: Place, at: usize, end: usize },
 }
 
-// How the lines end: the first fault and its line, or the whole diagram and its table's length.
+// How the lines end: the first fault and its line, or the whole diagram, with its table's length and what it has.
 enum Lines {
-    Faulty { fault: Fault, line: usize },
-    Whole { length: usize, counts: Counts },
+    Faulty {
+        fault: Fault,
+        line: usize,
+    },
+    Whole {
+        length: usize,
+        types: usize,
+        preds: usize,
+        roles: usize,
+        groups: usize,
+    },
 }
 
 // How reading a text ends: accepted with the table's length, refused with 1 to 6, or with 8 where the
@@ -91,7 +99,13 @@ fn read_by(text: &[u8], numbers: &mut [u32], table: &mut [u32]) -> Conversion
     let lines = read_lines(text, numbers);
     match lines {
         Lines::Faulty { fault, line } => Conversion::Refused { fault, line },
-        Lines::Whole { length, counts: _ } => hand_out(length, numbers, table),
+        Lines::Whole {
+            length,
+            types: _,
+            preds: _,
+            roles: _,
+            groups: _,
+        } => hand_out(length, numbers, table),
     }
 }
 
@@ -116,11 +130,17 @@ pub fn form(table: &[u32]) -> FormAnswer
     let lines = table_lines(table);
     match lines {
         Lines::Faulty { fault, line } => FormAnswer::Refused { fault, line },
-        Lines::Whole { length: _, counts } => FormAnswer::Accepted {
-            types: counts.types,
-            preds: counts.preds,
-            roles: counts.roles,
-            groups: counts.groups,
+        Lines::Whole {
+            length: _,
+            types,
+            preds,
+            roles,
+            groups,
+        } => FormAnswer::Accepted {
+            types,
+            preds,
+            roles,
+            groups,
         },
     }
 }

@@ -24,7 +24,8 @@ ghost use Rattle.lexer.specs.Cuts.{lineNumbers};
 ghost use Rattle.grammar.specs.Place.{kindAt, isGoing};
 ghost use Rattle.grammar.specs.Room.{Room};
 ghost use Rattle.reader.specs.Reach.{reachOf, lineOf, stepFrom, refusalOf, Level};
-ghost use Rattle.reader.specs.Lines.{linesOf, summarised, Inside};
+ghost use Rattle.reader.specs.Lines.{endOf, ended, linesOf, summarised, Inside};
+ghost use Rattle.reader.specs.Written.{written};
 
 // Where the step leads, with the positions behind the line.
 fn reach(step: Step, at: usize, end: usize) -> Line
@@ -87,9 +88,11 @@ fn refusal(line: Line, number: usize) -> Lines
     }
 }
 
-// Reads a text; the numbers go to the front of the table.
+// Reads a text; the numbers go to the front of the table, those before a fault too. Of a diagram they are its table.
 pub fn read_lines(text: &[u8], table: &mut [u32]) -> Lines
     requires { ⌜ length (now table) ≡ 708 ⌝ }
+    ensures { λ r. ⌜ endOf r ≡ ended (diagramIn textLine (now (text .entry))) ⌝ }
+    ensures { λ _. ⌜ now (table .exit) ≡ sets (now (table .entry)) 0 (written (now (text .entry))) ⌝ }
     ensures { λ r. ⌜ Inside 708 r ⌝ }
     ensures { λ r. ⌜ linesOf (now (table .exit)) r ≡ summarised (diagramIn textLine (now (text .entry))) ⌝ }
 {
@@ -118,14 +121,19 @@ pub fn read_lines(text: &[u8], table: &mut [u32]) -> Lines
             line: number,
         };
     }
+    let counts = counts_at(place);
     Lines::Whole {
         length: end,
-        counts: counts_at(place),
+        types: counts.types,
+        preds: counts.preds,
+        roles: counts.roles,
+        groups: counts.groups,
     }
 }
 
 // Reads a table; its position is where the numbers so far end.
 pub fn table_lines(table: &[u32]) -> Lines
+    ensures { λ r. ⌜ endOf r ≡ ended (diagramIn tableLine (now (table .entry))) ⌝ }
     ensures { λ r. ⌜ linesOf (now (table .entry)) r ≡ summarised (diagramIn tableLine (now (table .entry))) ⌝ }
 {
     let mut place = Place::AtDiagram;
@@ -151,8 +159,12 @@ pub fn table_lines(table: &[u32]) -> Lines
             line: number,
         };
     }
+    let counts = counts_at(place);
     Lines::Whole {
         length: end,
-        counts: counts_at(place),
+        types: counts.types,
+        preds: counts.preds,
+        roles: counts.roles,
+        groups: counts.groups,
     }
 }

@@ -7,6 +7,7 @@ use Rattle.grammar.specs.Room.{Room}
 use Rattle.reading.specs.Cutting.{table-cuts}
 use Rattle.reader.proofs.Running.{Running}
 use Rattle.reader.proofs.Turns.{is-going, start-room, level-within, number-fits, front-table, turn-room, turn-number, turn-less, turn-on, turn-halted, turn-level, surplus, whole}
+use Rattle.reader.proofs.Turns.{ended-halted, ended-surplus, ended-whole}
 use borrow.Author.Needs.{needs}
 use Rattle.reader.proofs.walk.table_lines.Statement.{statement}
 use Rattle.reader.proofs.walk.table_lines.Tie as tie
@@ -30,10 +31,10 @@ table-lines-spec =
     (λ c. search needs)
     (λ c. search needs)
     (λ c κs. search needs)
-    (λ c. search (needs, turn-halted, table-cuts, front-table))
+    (λ c. search (needs, ended-halted, turn-halted, table-cuts, front-table))
     (λ c. search (needs, number-fits))
     (λ c. search (needs, turn-less, table-cuts, front-table))
     (λ c. search (needs, level-within, turn-number, turn-room, turn-level, turn-on, table-cuts, front-table))
-    (λ c. search (needs, surplus, table-cuts))
+    (λ c. search (needs, ended-surplus, surplus, table-cuts))
     (λ c κs. search needs)
-    (λ c. search (needs, whole, table-cuts)))
+    (λ c. search (needs, ended-whole, whole, table-cuts, front-table)))

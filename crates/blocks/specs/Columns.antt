@@ -1,5 +1,5 @@
 -- Where the columns of members and of roles stand in cells: each starts where what follows is a known tail of the cells.
-use Prim.Native.Nat.{ℕ, _-_, _≤_, _<_, min}
+use Prim.Native.Nat.{ℕ, _+_, _*_, _-_, _≤_, _<_, min}
 use native.Mathlib.Omega.{arith}
 use mathlib.Core.Path.{_≡_, sym, ap, _∙_}
 use mathlib.Core.Bool.{true, false}
@@ -10,7 +10,8 @@ use borrow.Author.Tests.{lt-ltb, le-ltb}
 use Rattle.orm.specs.Diagram.{Diagram}
 use Rattle.table.specs.Positions.{typeCount, diagramOf}
 use Rattle.columns.specs.declared.Column.{Column}
-use Rattle.blocks.specs.Blocks.{membersAt, behind, behindTypes}
+use Rattle.columns.specs.declared.Rows.{Rows}
+use Rattle.blocks.specs.Blocks.{blockLength, membersAt, behind, behindTypes}
 use Rattle.blocks.specs.Places.{types-count, members-count, behind-all}
 
 -- Where a tail of the cells `s` starts
@@ -21,7 +22,10 @@ startOf s tail = length s - length tail
 abbrev pub membersColumn : List ℕ → List ℕ → Column
 membersColumn s t = record { start = startOf s (drop 1 t); step = 1; count = length (membersAt t) }
 
--- Column j of the rows, of `width` cells each, of the predicate whose block `t` starts with
+-- The rows, of `width` cells each, of the predicate whose block `t` starts with, and column j of them
+abbrev pub predRows : List ℕ → List ℕ → ℕ → Rows
+predRows s t width = record { start = startOf s (drop 1 t); width = width; count = getD t 0 0 }
+
 abbrev pub roleColumn : List ℕ → List ℕ → ℕ → ℕ → Column
 roleColumn s t width j = record { start = startOf s (drop j (drop 1 t)); step = width; count = getD t 0 0 }
 
@@ -44,6 +48,17 @@ start-is s {at} tail e h = omega (arith, length-drop at s, ap length e)
 pub first-rows : (t s : List ℕ) (r : ℕ) {n : ℕ} → n ≡ typeCount t → drop r s ≡ behind (replicate n 1) s → r ≤ length s
     → r ≡ startOf s (behindTypes (diagramOf t) s)
 first-rows t s r e h l = start-is s (behindTypes (diagramOf t) s) (behind-all t s r e h) l
+
+pub block-end : (s : List ℕ) (at w n : ℕ) {r : ℕ} → n ≡ getD (drop at s) 0 0 * w → r ≡ min (at + (1 + n)) (length s)
+    → r ≡ min (at + blockLength w (drop at s)) (length s)
+block-end s at w n e f = omega arith
+
+pub pred-rows : (s : List ℕ) (at width start : ℕ) {v i : ℕ} → drop start s ≡ drop 1 (drop at s) → start ≤ length s
+    → v ≡ getD (drop at s) 0 0 → i ≡ v → record { start = start; width = width; count = i } ≡ predRows s (drop at s) width
+pred-rows s at width start {i = i} h l e f =
+    let p : start ≡ startOf s (drop 1 (drop at s)) = start-is s (drop 1 (drop at s)) h l in
+    let q : i ≡ getD (drop at s) 0 0 = f ∙ e in
+    λ k. record { start = p k; width = width; count = q k }
 
 pub members-column : (s : List ℕ) (at start : ℕ) {v i c : ℕ} → drop start s ≡ drop 1 (drop at s) → v ≡ getD (drop at s) 0 0 → i ≡ v
     → c ≡ min i (length s - start) → start ≤ length s → record { start = start; step = 1; count = c } ≡ membersColumn s (drop at s)

@@ -3,7 +3,7 @@ use columns::Column;
 use columns::Rows;
 ghost use mathlib.Core.Path.{_≡_};
 ghost use mathlib.Core.List.{map};
-ghost use Prim.Native.Nat.{_*_, _-_, _≤_, _<_, min};
+ghost use Prim.Native.Nat.{_+_, _*_, _-_, _≤_, _<_, min};
 ghost use lib.ListN.{length, getD, drop, replicate};
 ghost use Rattle.counting.specs.Lists.{column};
 ghost use Rattle.orm.specs.Calls.{populationIn};
@@ -14,7 +14,7 @@ ghost use Rattle.columns.specs.Reach.{Reached};
 ghost use Rattle.blocks.specs.Blocks.{blockLength, blockFits, membersAt, rowsAt, behind, behindTypes, populationAt, predWidth, endOf, extentOf};
 ghost use Rattle.blocks.specs.Cuts.{TypesEnd};
 ghost use Rattle.blocks.specs.Places.{RowsHere, ColumnHere};
-ghost use Rattle.blocks.specs.Columns.{startOf, membersColumn, roleColumn, typeColumn};
+ghost use Rattle.blocks.specs.Columns.{startOf, membersColumn, predRows, roleColumn, typeColumn};
 
 // Where blocks end, or that one is short.
 pub enum End {
@@ -53,6 +53,7 @@ pub fn block_end(cells: &[u32], at: usize, width: usize) -> usize
     requires { ⌜ width ≤ 999999 ⌝ }
     ensures { λ r. ⌜ drop r (now (cells .entry)) ≡ drop (blockLength width (drop at (now (cells .entry)))) (drop at (now (cells .entry))) ⌝ }
     ensures { λ r. ⌜ r ≤ length (now (cells .entry)) ⌝ }
+    ensures { λ r. ⌜ r ≡ min (at + blockLength width (drop at (now (cells .entry)))) (length (now (cells .entry))) ⌝ }
 {
     columns::next(cells, at, 1 + block_size(cells, at, width))
 }
@@ -204,6 +205,7 @@ pub fn members_of(t: &[u32], cells: &[u32], number: u32) -> Column
 // The rows of the predicate whose block starts at `at`.
 pub fn rows(cells: &[u32], at: usize, width: usize) -> Rows
     ensures { λ r. ⌜ RowsHere (now (cells .entry)) at width r ⌝ }
+    ensures { λ r. ⌜ r ≡ predRows (now (cells .entry)) (drop at (now (cells .entry))) width ⌝ }
 {
     let start = columns::next(cells, at, 1);
     let count = columns::index(columns::cell(cells, at, 0));

@@ -1,7 +1,7 @@
 // Tests of the columns and rows that stand in a slice of cells: members, sublists, occurrences.
 ghost use mathlib.Core.Path.{_≡_};
 ghost use mathlib.Core.List.{map};
-ghost use Prim.Native.Nat.{_+_, _≤_, _<_};
+ghost use Prim.Native.Nat.{_+_, _≤_, _<_, min};
 ghost use lib.Dec.{eqb};
 ghost use lib.ListN.{length, getD, take, drop};
 ghost use Rattle.counting.specs.Lists.{same, combination};
@@ -50,6 +50,7 @@ pub fn next(s: &[u32], at: usize, step: usize) -> usize
     ensures { λ r. ⌜ drop r (now (s .entry)) ≡ drop step (drop at (now (s .entry))) ⌝ }
     ensures { λ r. ⌜ r ≤ length (now (s .entry)) ⌝ }
     ensures { λ r. ⌜ r ≤ at + step ⌝ }
+    ensures { λ r. ⌜ r ≡ min (at + step) (length (now (s .entry))) ⌝ }
 {
     if s.len() <= at {
         return s.len();

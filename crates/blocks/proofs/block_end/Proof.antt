@@ -1,6 +1,7 @@
 -- `blocks::block_end` meets its contract. The size cell and its entries.
 -- Assumes nothing.
 use Rattle.blocks.specs.Places.{end-here}
+use Rattle.blocks.specs.Columns.{block-end}
 use borrow.Author.Needs.{needs}
 use Rattle.blocks.proofs.block_end.Statement.{statement}
 use Rattle.blocks.proofs.block_end.Tie as tie
@@ -12,4 +13,4 @@ block-end-spec =
     (λ c κs. search needs)
     (λ c. search needs)
     (λ c κs. search needs)
-    (λ c. search (needs, end-here)))
+    (λ c. search (needs, end-here, block-end)))

@@ -9,8 +9,8 @@ pub next-spec : {M : Type 1} → statement M
 next-spec =
     tie.close
     (tie.spec
-    (λ c. search (needs, next-past))
+    (λ c. (search (needs, next-past), (search needs, (search needs, search needs))))
     (λ c. search needs)
-    (λ c. search (needs, next-behind))
+    (λ c. (search (needs, next-behind), (search needs, (search needs, search needs))))
     (λ c. search needs)
-    (λ c. (search (needs, next-here), (search needs, search needs))))
+    (λ c. (search (needs, next-here), (search needs, (search needs, search needs)))))

@@ -41,7 +41,7 @@ pub fn number_of(fault: Fault) -> usize
     }
 }
 
-pub enum Verdict {
+enum Verdict {
     Fine,
     Faulty(Fault),
 }

@@ -49,7 +49,7 @@ pub fn check_at(place: Place, table: &[u32], start: usize, end: usize) -> Step
     check_line(place, &table[..start], &table[start..end])
 }
 
-// As check_line, of a line that is cut off a text.
+// What the line with these numbers, which is cut off a text, leads to, after lines with the numbers `before`.
 fn check_cut_line(place: Place, before: &[u32], line: &[u32]) -> Step
     requires { ⌜ Room place (length (now before)) ⌝ }
     requires { ⌜ isGoing place ≡ true ⌝ }
@@ -69,7 +69,7 @@ fn check_cut_line(place: Place, before: &[u32], line: &[u32]) -> Step
     }
 }
 
-// As check_at, of a line of a text, whose numbers went to `start` to `end` in the table.
+// The line of a text whose numbers went to `start` to `end` in the table.
 pub fn check_cut(place: Place, table: &[u32], start: usize, end: usize) -> Step
     requires { ⌜ Room place start ⌝ }
     requires { ⌜ isGoing place ≡ true ⌝ }

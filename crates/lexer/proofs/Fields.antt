@@ -9,7 +9,7 @@ use lib.ListN.{drop, set}
 use lib.Seq.{sets}
 use Rattle.orm.specs.Reader.{Cut, broken, cut}
 use Rattle.orm.specs.Form.{fields, ranges}
-use Rattle.orm.specs.Text.{bytes, key, number, after, numbers, textLine, numeral, malformed}
+use Rattle.orm.specs.Text.{bytes, key, number, after, numbers, textLine, numeral}
 use Rattle.lexer.specs.declared.Kind.{Kind}
 use Rattle.lexer.specs.declared.Kind.the-variants.{DiagramLine, TypesLine, TypeLine, PredsLine, PredLine, RoleLine, FreqLine, EndLine}
 use Rattle.lexer.specs.declared.Numeral.{Numeral}

@@ -3,8 +3,6 @@ mod keys;
 pub mod lines;
 pub mod numbers;
 
-ghost use mathlib.Core.Path.{_≡_};
-
 // The key of a line.
 pub enum Kind {
     DiagramLine,

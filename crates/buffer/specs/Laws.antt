@@ -9,8 +9,8 @@ use mathlib.Core.Bool.{Bool, true, false}
 use mathlib.Core.List.{List, [], _∷_, _++_, append-assoc}
 use lib.Dec.{ltb}
 use lib.ListN.{length, getD, take, drop, set, replicate, length-set, drop-of-length-le}
-use lib.Seq.{sets, sets-eq, take-append-seam, drop-cons}
-use borrow.Author.Tests.{lt-ltb, le-ltb}
+use lib.Seq.{sets, sets-eq, take-append-seam, drop-cons, length-take-le}
+use borrow.Author.Tests.{lt-ltb, le-ltb, ltb-true}
 use Rattle.buffer.specs.Written.{Output, put, puts, output, Wrote, Writing, Splits}
 
 puts-append : (s : Output) (xs ys : List ℕ) → puts s (xs ++ ys) ≡ puts (puts s xs) ys
@@ -166,3 +166,40 @@ drop-more xs i h = record { is = drop-cons xs i 0 h ∙ rw add-one }
 
 pub drop-none : (xs : List ℕ) (i : ℕ) → length xs ≤ i → drop i xs ≡ []
 drop-none xs i h = drop-of-length-le xs h
+
+-- ---- an index behind what was written stays within the buffer, whether or not there was room
+
+put-within : (s : Output) (x : ℕ) → s .at ≤ length (s .buffer) → put s x .at ≤ length (put s x .buffer)
+unfolding put
+put-within s x h = go (ltb (s .at) (length (s .buffer))) refl
+  where
+    then : Bool → Output
+    then b = elim b [ true ↦ record { buffer = set (s .buffer) (s .at) x; at = suc (s .at) } | false ↦ s ]
+
+    go : (b : Bool) → ltb (s .at) (length (s .buffer)) ≡ b → then b .at ≤ length (then b .buffer)
+    go true is = omega (arith, ltb-true (s .at) (length (s .buffer)) is, length-set (s .buffer) (s .at) x)
+    go false is = h
+
+puts-within : (s : Output) (xs : List ℕ) → s .at ≤ length (s .buffer) → puts s xs .at ≤ length (puts s xs .buffer)
+unfolding puts
+puts-within s [] h = h
+puts-within s (x ∷ xs) h = puts-within (put s x) xs (put-within s x h)
+
+module _ {o xs o′ : List ℕ} {at to : ℕ} (h : at ≤ length o) (w : Wrote o at xs o′ to) where
+  pub wrote-inside : to ≤ length o′
+  wrote-inside =
+      let s : Output = puts (output o at) xs in
+      let e : to ≡ s .at = ap (λ (s : Output). s .at) (w .is) in
+      let f : length o′ ≡ length (s .buffer) = ap (λ (s : Output). length (s .buffer)) (w .is) in
+      omega (arith, puts-within (output o at) xs h, e, f)
+
+  pub wrote-counts : to ≡ length (take to o′)
+  wrote-counts = sym (length-take-le to o′ wrote-inside)
+
+-- from the index 0 on
+module _ {o xs o′ : List ℕ} {to : ℕ} (w : Wrote o 0 xs o′ to) where
+  pub wrote-front-inside : to ≤ length o′
+  wrote-front-inside = wrote-inside (omega arith) w
+
+  pub wrote-front-counts : to ≡ length (take to o′)
+  wrote-front-counts = wrote-counts (omega arith) w

@@ -1,5 +1,4 @@
 -- The laws of what is printed.
 pub mod TableLength
 pub mod Reports
-pub mod Inside
 pub mod Whole

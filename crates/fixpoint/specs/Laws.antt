@@ -5,7 +5,6 @@ pub mod Tests
 pub mod Run
 pub mod Decision
 pub mod AnyOrder
-pub mod Part
 use Prim.Native.Nat.{ℕ, _≤_, _<_}
 use mathlib.Core.Path.{_≡_}
 use mathlib.Core.Logic.{_↔_}

@@ -36,21 +36,21 @@ module _ {r : Bool} (b : ℕ) (e : r ≡ isDigit b) (t : not r ≡ false) where
 
 -- ---- the value stays below a million
 
-abbrev pub Few : ℕ → ℕ → Type 0
-Few v left = (v + 1) * 10 ^ left ≤ 1000000
+abbrev pub FewDigits : ℕ → ℕ → Type 0
+FewDigits v left = (v + 1) * 10 ^ left ≤ 1000000
 
-few-small : (v left : ℕ) → Few v left → v < 1000000
+few-small : (v left : ℕ) → FewDigits v left → v < 1000000
 few-small v left h =
     let p : (v + 1) * 1 ≤ (v + 1) * 10 ^ left = mul-le-mul (le-refl (v + 1)) (one-le-pow left 10 (lit< tt)) in
     omega arith
 
-pub few-times : (v left : ℕ) → Few v left → Fits w32 (v * 10)
+pub few-times : (v left : ℕ) → FewDigits v left → Fits w32 (v * 10)
 few-times v left h = record { fits = omega (arith, few-small v left h) }
 
-pub few-plus : (v left : ℕ) {d : ℕ} (b : ℕ) → Few v left → d ≡ b - 48 → b ≤ 57 → Fits w32 (v * 10 + d)
+pub few-plus : (v left : ℕ) {d : ℕ} (b : ℕ) → FewDigits v left → d ≡ b - 48 → b ≤ 57 → Fits w32 (v * 10 + d)
 few-plus v left b h e l = record { fits = omega (arith, few-small v left h) }
 
-few-step : (v left d : ℕ) → Few v (suc left) → d < 10 → Few (v * 10 + d) left
+few-step : (v left d : ℕ) → FewDigits v (suc left) → d < 10 → FewDigits (v * 10 + d) left
 few-step v left d h l =
     let a : v * 10 + d + 1 ≤ (v + 1) * 10 = omega arith in
     let p : (v * 10 + d + 1) * 10 ^ left ≤ (v + 1) * 10 * 10 ^ left = mul-le-mul a (le-refl (10 ^ left)) in
@@ -58,16 +58,16 @@ few-step v left d h l =
     mul-assoc (v + 1) 10 (10 ^ left) ∙ ap (λ (k : ℕ). (v + 1) * k) (sym (pow-succ' 10 left)) in
     omega arith
 
-pub few-more : (v left d b : ℕ) → Few v left → (left ≡ 0 → ⊥) → d ≡ b - 48 → b ≤ 57 → Few (v * 10 + d) (left - 1)
+pub few-more : (v left d b : ℕ) → FewDigits v left → (left ≡ 0 → ⊥) → d ≡ b - 48 → b ≤ 57 → FewDigits (v * 10 + d) (left - 1)
 few-more v zero d b h n e l = absurd (n refl)
 few-more v (suc left) d b h n e l =
     let p : left ≡ suc left - 1 = omega arith in
-    subst (λ (k : ℕ). Few (v * 10 + d) k) p (few-step v left d h (omega arith))
+    subst (λ (k : ℕ). FewDigits (v * 10 + d) k) p (few-step v left d h (omega arith))
 
-pub few-none : Few 0 0
+pub few-none : FewDigits 0 0
 few-none = omega arith
 
-pub few-first : (d b : ℕ) → d ≡ b - 48 → b ≤ 57 → Few d 5
+pub few-first : (d b : ℕ) → d ≡ b - 48 → b ≤ 57 → FewDigits d 5
 few-first d b e l = omega arith
 
 -- ---- digits

@@ -7,12 +7,11 @@ use lib.ListN.{length}
 use Rattle.orm.specs.LineReader.{noLine, lineAt, nextLine, positionAfter}
 use Rattle.orm.specs.Text.{bytes, lineText}
 use Rattle.buffer.specs.Written.{Wrote, Writing, Splits}
-use Rattle.buffer.specs.Laws.{wrote-long, writing-start, writing-more, writing-all, writing-long}
+use Rattle.buffer.specs.Laws.{wrote-long, wrote-inside, writing-start, writing-more, writing-all, writing-long}
 use Rattle.lines.specs.Answers.{stepFrom}
 use Rattle.lines.specs.Laws.Answers.{StandsAt, line-stands, line-none, step-past}
 use Rattle.lines.specs.declared.Step.{Step}
 use Rattle.lines.specs.declared.Line.the-variants.{At, Nothing}
-use Rattle.lines_main.proofs.Writing.{wrote-within}
 use Rattle.lines_main.specs.Report.{entry, leftText, reportWithin, report}
 
 -- `line` and `left`
@@ -78,7 +77,7 @@ reporting-line {text} {o₀} {o} {o′} {to} {to′} {offset} {p} {n} {st} r e f
           calls = k;
           enough = omega arith;
           inside = omega (arith, l .start, l .inside);
-          room = wrote-within (r .room) w;
+          room = wrote-inside (r .room) w;
           writing = writing-more writing
               (subst (λ (x : ℕ). Wrote o to (entry lineKey x n) o′ to′) (l .start) w) (report-line k text offset n (l .next));
         })

@@ -26,7 +26,7 @@ use Rattle.order.specs.Values.{placeOf, Sortable, Listed}
 use Rattle.order.specs.Parts.{part-is}
 use Rattle.blocks.specs.Blocks.{blockLength, contents, predWidth, rowsAt, rowsIn, behindTypes}
 use Rattle.playing.specs.Playing.{inRole, inRoles, inPreds, playedBy, populationOf, players}
-use Rattle.playing.specs.Marks.{marked, allMarked, equalTo, among, amongRole, amongRoles, amongPreds, Ready, Unmarked, Noted, Noting}
+use Rattle.playing.specs.Marks.{marked, allMarked, equalTo, among, amongRole, amongRoles, amongPreds, Markable, Unmarked, Noted, Noting}
 use Rattle.playing.proofs.Searched.{in-roles-start, in-preds-start}
 
 -- ---- places
@@ -55,7 +55,7 @@ places-apart x y vs m n d e = go (ltb x y) refl
 
 -- ---- one mark
 
-module _ (s : List ℕ) (c : Column) (list marks : List ℕ) (ready : Ready s c list marks) (x : ℕ) {i : ℕ} (e : i ≡ placeOf x (valuesIn s c)) where
+module _ (s : List ℕ) (c : Column) (list marks : List ℕ) (ready : Markable s c list marks) (x : ℕ) {i : ℕ} (e : i ≡ placeOf x (valuesIn s c)) where
   abbrev vs : List ℕ
   vs = valuesIn s c
 
@@ -88,10 +88,10 @@ module _ (s : List ℕ) (c : Column) (list marks : List ℕ) (ready : Ready s c 
 
 -- ---- and the marks stay as many
 
-pub still-ready : (s : List ℕ) (c : Column) (list marks marks′ : List ℕ) → Ready s c list marks → length marks′ ≡ length marks → Ready s c list marks′
+pub still-ready : (s : List ℕ) (c : Column) (list marks marks′ : List ℕ) → Markable s c list marks → length marks′ ≡ length marks → Markable s c list marks′
 still-ready s c list marks marks′ r e = record { sortable = r .sortable; listed = r .listed; long = e ∙ r .long }
 
-pub same-ready : (s : List ℕ) (c : Column) (list marks marks′ : List ℕ) → Ready s c list marks → Ready s c list marks′ → length marks ≡ length marks′
+pub same-ready : (s : List ℕ) (c : Column) (list marks marks′ : List ℕ) → Markable s c list marks → Markable s c list marks′ → length marks ≡ length marks′
 same-ready s c list marks marks′ r q = r .long ∙ sym (q .long)
 
 -- ---- on the way
@@ -206,7 +206,7 @@ preds-start vs marks t s number pred at left e f q =
 
 -- ---- what the marks tell
 
-module _ (s : List ℕ) (c : Column) (list marks : List ℕ) (ready : Ready s c list marks) (x : ℕ) {i : ℕ} (e : i ≡ placeOf x (valuesIn s c)) where
+module _ (s : List ℕ) (c : Column) (list marks : List ℕ) (ready : Markable s c list marks) (x : ℕ) {i : ℕ} (e : i ≡ placeOf x (valuesIn s c)) where
   pub marked-past : length marks ≤ i → false ≡ marked (valuesIn s c) marks x
   unfolding marked
   marked-past h = rw (← e, List·getD-eq-default marks 0 h)
@@ -244,11 +244,11 @@ unfolding marked among
 all-play t s number vs marks marks′ u n e =
     e ∙ all-within vs marks′ vs (players t s number) (λ x m. n .each x m ∙ rw (u .none (placeOf x vs)))
 
-pub ready : (s : List ℕ) (c : Column) (list marks : List ℕ) → Sortable s c → Listed s c list → Unmarked marks (c .count) → Ready s c list marks
+pub ready : (s : List ℕ) (c : Column) (list marks : List ℕ) → Sortable s c → Listed s c list → Unmarked marks (c .count) → Markable s c list marks
 ready s c list marks a l u = record { sortable = a; listed = l; long = u .long }
 
 pub ready-after : (s : List ℕ) (c : Column) (list marks marks′ : List ℕ) → Sortable s c → Listed s c list → Unmarked marks (c .count)
-    → length marks′ ≡ length marks → Ready s c list marks′
+    → length marks′ ≡ length marks → Markable s c list marks′
 ready-after s c list marks marks′ a l u e = record { sortable = a; listed = l; long = e ∙ u .long }
 
 -- ---- marks of which none is set

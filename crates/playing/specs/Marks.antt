@@ -37,7 +37,7 @@ unfoldable pub amongPreds : ℕ → List Predicate → List (List (List ℕ)) �
 amongPreds number ps os y = inPreds y number ps os
 
 -- The members are in order, and there is a mark for each
-pub record Ready (s : List ℕ) (members : Column) (list marks : List ℕ) : Type 0 where
+pub record Markable (s : List ℕ) (members : Column) (list marks : List ℕ) : Type 0 where
   pub sortable : Sortable s members
   pub listed : Listed s members list
   pub long : length marks ≡ members .count

@@ -15,7 +15,7 @@ ghost use Rattle.columns.specs.Reach.{Reached};
 ghost use Rattle.order.specs.Values.{Sortable};
 ghost use Rattle.blocks.specs.Standing.{PredHere, Populated};
 ghost use Rattle.playing.specs.Playing.{inRole, inRoles, predAt, rowsHere, players};
-ghost use Rattle.playing.specs.Marks.{marked, allMarked, Ready, Unmarked, Noted, equalTo, among, amongRole, amongRoles};
+ghost use Rattle.playing.specs.Marks.{marked, allMarked, Markable, Unmarked, Noted, equalTo, among, amongRole, amongRoles};
 
 // x stands in the role at `role`, with the column `values`, and the type with this number plays it.
 fn in_role(t: &[u32], cells: &[u32], x: u32, number: u32, role: usize, values: Column) -> bool
@@ -94,7 +94,7 @@ fn all_play(t: &[u32], cells: &[u32], column: Column, number: u32) -> bool
 
 // x is marked, if it is a member.
 fn mark(cells: &[u32], members: Column, list: &[u32], x: u32, marks: &mut [u32])
-    requires { ⌜ Ready (now cells) members (now list) (now marks) ⌝ }
+    requires { ⌜ Markable (now cells) members (now list) (now marks) ⌝ }
     ensures { λ _. ⌜ Noted (valuesIn (now (cells .entry)) members) (now (marks .entry)) (now (marks .exit)) (equalTo x) ⌝ }
 {
     let i = order::place(cells, members, list, x);
@@ -105,7 +105,7 @@ fn mark(cells: &[u32], members: Column, list: &[u32], x: u32, marks: &mut [u32])
 
 // The members in the column `values` are marked.
 fn mark_values(cells: &[u32], values: Column, members: Column, list: &[u32], marks: &mut [u32])
-    requires { ⌜ Ready (now cells) members (now list) (now marks) ⌝ }
+    requires { ⌜ Markable (now cells) members (now list) (now marks) ⌝ }
     requires { ⌜ Reached (now cells) values ⌝ }
     ensures { λ _.
         ⌜ Noted (valuesIn (now (cells .entry)) members) (now (marks .entry)) (now (marks .exit))
@@ -132,7 +132,7 @@ fn mark_role(
     marks: &mut [u32],
 )
     requires { ⌜ Walkable (now t) ⌝ }
-    requires { ⌜ Ready (now cells) members (now list) (now marks) ⌝ }
+    requires { ⌜ Markable (now cells) members (now list) (now marks) ⌝ }
     requires { ⌜ Reached (now cells) values ⌝ }
     ensures { λ _.
         ⌜ Noted (valuesIn (now (cells .entry)) members) (now (marks .entry)) (now (marks .exit))
@@ -156,7 +156,7 @@ fn mark_roles(
     marks: &mut [u32],
 )
     requires { ⌜ Walkable (now t) ⌝ }
-    requires { ⌜ Ready (now cells) members (now list) (now marks) ⌝ }
+    requires { ⌜ Markable (now cells) members (now list) (now marks) ⌝ }
     requires { ⌜ PredHere (now t) (now cells) pred at ⌝ }
     ensures { λ _.
         ⌜ Noted (valuesIn (now (cells .entry)) members) (now (marks .entry)) (now (marks .exit))
@@ -193,7 +193,7 @@ fn mark_preds(
     marks: &mut [u32],
 )
     requires { ⌜ Walkable (now t) ⌝ }
-    requires { ⌜ Ready (now cells) members (now list) (now marks) ⌝ }
+    requires { ⌜ Markable (now cells) members (now list) (now marks) ⌝ }
     requires { ⌜ Populated (now t) (now cells) ⌝ }
     ensures { λ _.
         ⌜ Noted (valuesIn (now (cells .entry)) members) (now (marks .entry)) (now (marks .exit))
@@ -212,7 +212,7 @@ fn mark_preds(
 
 // x is a member and is marked.
 fn is_marked(cells: &[u32], members: Column, list: &[u32], x: u32, marks: &[u32]) -> bool
-    requires { ⌜ Ready (now cells) members (now list) (now marks) ⌝ }
+    requires { ⌜ Markable (now cells) members (now list) (now marks) ⌝ }
     ensures { λ r. ⌜ r ≡ marked (valuesIn (now (cells .entry)) members) (now (marks .entry)) x ⌝ }
 {
     let i = order::place(cells, members, list, x);
@@ -224,7 +224,7 @@ fn is_marked(cells: &[u32], members: Column, list: &[u32], x: u32, marks: &[u32]
 
 // Every member is marked.
 fn all_marked(cells: &[u32], members: Column, list: &[u32], marks: &[u32]) -> bool
-    requires { ⌜ Ready (now cells) members (now list) (now marks) ⌝ }
+    requires { ⌜ Markable (now cells) members (now list) (now marks) ⌝ }
     ensures { λ r. ⌜ r ≡ allMarked (valuesIn (now (cells .entry)) members) (now (marks .entry)) (valuesIn (now (cells .entry)) members) ⌝ }
 {
     let mut at = members.start;

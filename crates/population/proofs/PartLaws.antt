@@ -24,7 +24,7 @@ use Rattle.table.specs.Cursors.{placedAt}
 use Rattle.table.specs.Valid.{Under}
 use Rattle.table.specs.Laws.Valid.{under-nil, under-cons, under-append}
 use Rattle.table.specs.declared.Cursor.{Cursor}
-use Rattle.population.specs.Plan.{order, counts, groupCounts, owns, sizesOf, Few}
+use Rattle.population.specs.Plan.{order, counts, groupCounts, owns, sizesOf, SmallArity}
 
 -- ---- group by group
 
@@ -155,12 +155,12 @@ module _ (t : List ℕ) (x : Cursor) where
   unfolding placedAt
   role-count = each-length roleOf 3 (getD (drop (x .at) t) 2 0) (drop 4 (drop (x .at) t))
 
-  group-few : (g : ℕ) → Few t x → length (groupRoles (placedAt t x) g) ≤ 6
+  group-few : (g : ℕ) → SmallArity t x → length (groupRoles (placedAt t x) g) ≤ 6
   unfolding groupRoles rolesInGroup
   group-few g f = omega
       (arith, select-few (λ (r : Role). eqb (r .group) g) (placedAt t x .roles) (placedAt t x .predicate .roles), role-count, f .roles)
 
-  pub order-few : Few t x → length (order (placedAt t x)) ≤ 6
+  pub order-few : SmallArity t x → length (order (placedAt t x)) ≤ 6
   order-few f =
       let px : Placed = placedAt t x in
       let long : length (order px) ≡ length (grouped px 1 (groupCount px)) + length (groupRoles px 0) =
@@ -169,15 +169,15 @@ module _ (t : List ℕ) (x : Cursor) where
       unfold groupRoles in this-or-later 0 (px .roles) (px .predicate .roles) in
       omega (arith, long, none, grouped-at-most px 1 (groupCount px), grouped-from-few 0 (px .predicate .roles), role-count, f .roles)
 
-  pub parts-few : Few t x → length (parts (placedAt t x)) ≤ 12
+  pub parts-few : SmallArity t x → length (parts (placedAt t x)) ≤ 12
   parts-few f =
       omega (arith, parts-length (placedAt t x), group-few 0 f, group-count, f .groups)
 
-  pub counts-few : Few t x → length (counts (placedAt t x)) ≤ 12
+  pub counts-few : SmallArity t x → length (counts (placedAt t x)) ≤ 12
   unfolding counts
   counts-few f = rw length-map (parts-few f)
 
-  pub counted-small : Few t x → Under 6 (counts (placedAt t x))
+  pub counted-small : SmallArity t x → Under 6 (counts (placedAt t x))
   counted-small f =
       rw (counts-parts (placedAt t x), ← ones (groupRoles (placedAt t x) 0))
       (under-append (groupCounts (placedAt t x) (upFrom 1 (groupCount (placedAt t x)))) (map {B = ℕ} (λ (p : ℕ). 1) (groupRoles (placedAt t x) 0))
@@ -235,7 +235,7 @@ module _ (t c : List ℕ) (x : Cursor) where
       wrote-as (wrote-then w v) (ap (λ (l : List ℕ). sizesOf c (upFrom (x .groups) n) ++ sizesOf c l) eo ∙ owns-parts en)
 
 -- the roles of the parts stand at the front of `s₂`
-module _ (t : List ℕ) (x : Cursor) (f : Few t x) {s s₁ s₂ : List ℕ} {a n : ℕ} (room : length s ≡ 6)
+module _ (t : List ℕ) (x : Cursor) (f : SmallArity t x) {s s₁ s₂ : List ℕ} {a n : ℕ} (room : length s ≡ 6)
     (w : Wrote s 0 (grouped (placedAt t x) 1 (getD (drop (x .at) t) 3 0)) s₁ a) (v : Wrote s₁ a (groupRoles (placedAt t x) 0) s₂ n) where
   roles-fit : length (order (placedAt t x)) ≤ length s
   roles-fit = omega (arith, order-few t x f, room)

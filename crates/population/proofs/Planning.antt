@@ -14,7 +14,7 @@ use Rattle.table.specs.declared.Cursor.{Cursor}
 use Rattle.tuples.specs.Steps.{padded, steps, Small}
 use Rattle.tuples.specs.StepsLaws.{padded-front}
 use Rattle.tuples.specs.Nested.{stepsOfEach}
-use Rattle.population.specs.Plan.{order, counts, owns, sizesOf, Wants, Listed, Few, Ordered, Opened, Owned}
+use Rattle.population.specs.Plan.{order, counts, owns, sizesOf, Wants, Listed, SmallArity, Ordered, Opened, Owned}
 use Rattle.population.proofs.PartLaws.{grouped, order-few, parts-few, gathered, gathered-parts, gathered-end}
 
 -- sizes of sets are small
@@ -38,11 +38,11 @@ pub rows-planned : (c : List ℕ) (own : ℕ) (sizes : List ℕ) {o o′ : List 
 rows-planned c own sizes ew v = wrote-as v (ap₂ {C = List ℕ} (λ a b. steps a b) ew (padded-all sizes))
 
 module _ (t c : List ℕ) (x : Cursor) where
-  owns-few : Few t x → length (owns c (placedAt t x)) ≤ 12
+  owns-few : SmallArity t x → length (owns c (placedAt t x)) ≤ 12
   owns-few f = let long : length (owns c (placedAt t x)) ≡ length (parts (placedAt t x)) = unfold owns in length-map (parts (placedAt t x))
       (λ (b : Part). size c (b .own)) in omega (arith, long, parts-few t x f)
 
-  module _ (f : Few t x) {s s′ : List ℕ} {n : ℕ} (room : length s ≡ 12) (w : Wrote s 0 (owns c (placedAt t x)) s′ n) where
+  module _ (f : SmallArity t x) {s s′ : List ℕ} {n : ℕ} (room : length s ≡ 12) (w : Wrote s 0 (owns c (placedAt t x)) s′ n) where
     fits : length (owns c (placedAt t x)) ≤ length s
     fits = omega (arith, owns-few f, room)
 
@@ -56,10 +56,10 @@ module _ {t c sizes : List ℕ} {x : Cursor} (o : Owned t c x sizes) where
   pub owned-small : Small c → Small sizes
   owned-small h = rw (o .are) (owns-small c t x h)
 
-  pub owned-few : Few t x → length sizes ≤ 12
+  pub owned-few : SmallArity t x → length sizes ≤ 12
   owned-few f = omega (arith, ap length (o .are), owns-few t c x f)
 
-  pub owned-wanted : {ks : List ℕ} → Few t x → Small c → Small ks → Wants sizes ks
+  pub owned-wanted : {ks : List ℕ} → SmallArity t x → Small c → Small ks → Wants sizes ks
   owned-wanted f h k = record { few = owned-few f; wanted = owned-small h; counted = k }
 
 module _ (c roles : List ℕ) {s s′ : List ℕ} {n : ℕ} (few : length roles ≤ 6) (room : length s ≡ 6) (w : Wrote s 0 (sizesOf c roles) s′ n) where
@@ -84,7 +84,7 @@ counts-small w = w .counted
 
 -- ---- the order of the roles
 
-module _ (t : List ℕ) (x : Cursor) (f : Few t x) {s s₁ s₂ : List ℕ} {a n : ℕ} (room : length s ≡ 6)
+module _ (t : List ℕ) (x : Cursor) (f : SmallArity t x) {s s₁ s₂ : List ℕ} {a n : ℕ} (room : length s ≡ 6)
     (w : Wrote s 0 (grouped (placedAt t x) 1 (getD (drop (x .at) t) 3 0)) s₁ a) (v : Wrote s₁ a (groupRoles (placedAt t x) 0) s₂ n) where
   pub ordered : Ordered t x (take n s₂)
   ordered = record { are = gathered t x f room w v }
@@ -104,7 +104,7 @@ module _ (t : List ℕ) (x : Cursor) (f : Few t x) {s s₁ s₂ : List ℕ} {a n
             (drop-append-seam (grouped (placedAt t x) 1 (getD (drop (x .at) t) 3 0)) (groupRoles (placedAt t x) 0));
       }
 
-module _ (t : List ℕ) (x : Cursor) (f : Few t x) where
+module _ (t : List ℕ) (x : Cursor) (f : SmallArity t x) where
   module _ {roles : List ℕ} (o : Ordered t x roles) where
     pub ordered-few : length roles ≤ 6
     ordered-few = omega (arith, ap length (o .are), order-few t x f)

@@ -26,7 +26,7 @@ use Rattle.table.specs.declared.Cursor.{Cursor}
 use Rattle.tuples.specs.Steps.{steps, tupleIn, Small}
 use Rattle.tuples.specs.Nested.{stepsOfEach, tuplesIn, length-steps}
 use Rattle.population.specs.Plan.{order, counts, owns, sizesOf, position, played, columnOf, rowBy}
-use Rattle.population.specs.Plan.{Few, Wants, Planned, Ready, Ordered, Columned, Owned, Stepped, Prepared, Complete}
+use Rattle.population.specs.Plan.{SmallArity, Wants, Planned, AtPredicate, Ordered, Columned, Owned, PairingSteps, Prepared, Complete}
 use Rattle.population.proofs.TypeLaws.{first-small}
 use Rattle.population.proofs.ColumnLaws.{columnsFrom}
 use Rattle.population.proofs.PartLaws.{order-few, parts-few, role-count, group-count, counts-few, counted-small}
@@ -93,7 +93,7 @@ counts-length : (y : Placed) → length (counts y) ≡ length (parts y)
 unfolding counts
 counts-length y = length-map (parts y) (λ (b : Part). length (b .roles))
 
-module _ (types roles : List ℕ) {t c : List ℕ} {x : Cursor} (ready : Ready t c x) {s s′ : List ℕ} {n : ℕ} (room : length s ≡ 24)
+module _ (types roles : List ℕ) {t c : List ℕ} {x : Cursor} (ready : AtPredicate t c x) {s s′ : List ℕ} {n : ℕ} (room : length s ≡ 24)
     (w : Wrote s 0 (columnsFrom (diagramOf t) c types roles (x .roles) (placedAt t x .predicate .roles)) s′ n) where
   columns-fit : length (columnsFrom (diagramOf t) c types roles (x .roles) (placedAt t x .predicate .roles)) ≤ length s
   columns-fit = omega (
@@ -115,15 +115,15 @@ module _ (types roles : List ℕ) {t c : List ℕ} {x : Cursor} (ready : Ready t
     are = wrote-front w columns-fit ∙ ap (λ (l : List ℕ). columnsFrom (diagramOf t) c types l (x .roles) (placedAt t x .predicate .roles)) (o .are);
   }
 
-module _ {t c sizes os : List ℕ} {x : Cursor} (p : Stepped t c x sizes os) where
+module _ {t c sizes os : List ℕ} {x : Cursor} (p : PairingSteps t c x sizes os) where
   pub stepped-parts : length sizes ≡ length (parts (placedAt t x))
   stepped-parts = ap length (p .owned .are) ∙ owns-length c (placedAt t x)
 
-  pub stepped-few : Ready t c x → length sizes ≤ 12
+  pub stepped-few : AtPredicate t c x → length sizes ≤ 12
   stepped-few ready = owned-few (p .owned) (ready .few)
 
-module _ {t c : List ℕ} {x : Cursor} (ready : Ready t c x) {s s′ : List ℕ} {n : ℕ} where
-  pub stepped : {sizes : List ℕ} → length s ≡ 36 → Owned t c x sizes → Wrote s 0 (steps (getD c (x .own) 0) sizes) s′ n → Stepped t c x sizes s′
+module _ {t c : List ℕ} {x : Cursor} (ready : AtPredicate t c x) {s s′ : List ℕ} {n : ℕ} where
+  pub stepped : {sizes : List ℕ} → length s ≡ 36 → Owned t c x sizes → Wrote s 0 (steps (getD c (x .own) 0) sizes) s′ n → PairingSteps t c x sizes s′
   stepped room o w =
       let whole : List ℕ = steps (getD c (x .own) 0) (owns c (placedAt t x)) in
       let fits : length whole ≤ length s =
@@ -137,11 +137,11 @@ module _ {t c : List ℕ} {x : Cursor} (ready : Ready t c x) {s s′ : List ℕ}
     pub counts-within : n ≤ length s′
     counts-within = wrote-within w counts-fit
 
-    pub prepared : {roles columns sizes os : List ℕ} → Columned t c x roles columns → Stepped t c x sizes os
+    pub prepared : {roles columns sizes os : List ℕ} → Columned t c x roles columns → PairingSteps t c x sizes os
         → Prepared t c x roles columns sizes os (take n s′)
     prepared p q = record { columned = p; stepped = q; ks-are = wrote-front w counts-fit }
 
-module _ {t c roles columns sizes os ks : List ℕ} {x : Cursor} (ready : Ready t c x) (p : Prepared t c x roles columns sizes os ks) where
+module _ {t c roles columns sizes os ks : List ℕ} {x : Cursor} (ready : AtPredicate t c x) (p : Prepared t c x roles columns sizes os ks) where
   pub prepared-few : length roles ≤ 6
   prepared-few = ordered-few t x (ready .few) (p .columned .ordered)
 
@@ -156,7 +156,7 @@ unfolding flatMap flatten
 flat-rows f g [] h = refl
 flat-rows f g (i ∷ is) h = ap₂ {C = List ℕ} (λ a b. a ++ b) (h i) (flat-rows f g is h)
 
-module _ {t c : List ℕ} {x : Cursor} (ready : Ready t c x) {roles columns sizes os ks is is′ : List ℕ} {a : ℕ}
+module _ {t c : List ℕ} {x : Cursor} (ready : AtPredicate t c x) {roles columns sizes os ks is is′ : List ℕ} {a : ℕ}
     (p : Prepared t c x roles columns sizes os ks) (room : length is ≡ 18) (w : Wrote is 0 (stepsOfEach sizes ks (sizesOf c roles)) is′ a) where
   abbrev px : Placed
   px = placedAt t x
@@ -252,7 +252,7 @@ module _ {t : List ℕ} {x : Cursor} {n : ℕ} (f : FewLeft t x n) (h : 0 < n) w
       (predOf (drop (x .at) t) ∷ predsIn (n - 1) (drop (x .at + predLength (drop (x .at) t)) t))
   split = rw (preds-more t (x .at) n h refl) at (f .each)
 
-  pub few-here : Few t x
+  pub few-here : SmallArity t x
   unfolding placedAt
   few-here = let e = split (predOf (drop (x .at) t))
       (here refl) in record { roles = omega (arith, role-count t x, e .0); groups = omega (arith, group-count t x, e .1) }
@@ -260,7 +260,7 @@ module _ {t : List ℕ} {x : Cursor} {n : ℕ} (f : FewLeft t x n) (h : 0 < n) w
   pub few-more : {y : Cursor} → y ≡ nextCursor t x → FewLeft t y (n - 1)
   few-more e = record { each = rw e (λ p m. split p (there m)) }
 
-pub ready-here : {t c : List ℕ} {x : Cursor} {n : ℕ} → Valid t → Small c → Reach t x n → 0 < n → FewLeft t x n → Ready t c x
+pub ready-here : {t c : List ℕ} {x : Cursor} {n : ℕ} → Valid t → Small c → Reach t x n → 0 < n → FewLeft t x n → AtPredicate t c x
 ready-here {t} {x = x} {n = n} v s r h f = record { walk = valid-walkable v; sizes = s; here = reach-here t x n r h; few = few-here f h }
 
 module _ (t c : List ℕ) where

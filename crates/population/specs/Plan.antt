@@ -108,18 +108,18 @@ pub record Planned (count : ℕ) (columns outer ks inner : List ℕ) : Type 0 wh
   pub enough : (i : ℕ) → length (tuplesIn inner ks (tupleIn outer (length ks) i)) ≤ 6
 
 -- At most 6 roles and 6 groups
-pub record Few (t : List ℕ) (x : Cursor) : Type 0 where
+pub record SmallArity (t : List ℕ) (x : Cursor) : Type 0 where
   pub roles : getD (drop (x .at) t) 2 0 ≤ 6
   pub groups : getD (drop (x .at) t) 3 0 ≤ 6
 
 -- ---- what is known of a predicate whose cells are written
 
 -- A walk is at `x`, and the sizes `c` are small
-pub record Ready (t c : List ℕ) (x : Cursor) : Type 0 where
+pub record AtPredicate (t c : List ℕ) (x : Cursor) : Type 0 where
   pub walk : Walkable t
   pub sizes : Small c
   pub here : Here t x
-  pub few : Few t x
+  pub few : SmallArity t x
 
 -- The roles of its parts, part by part
 pub record Ordered (t : List ℕ) (x : Cursor) (roles : List ℕ) : Type 0 where
@@ -142,7 +142,7 @@ pub record Owned (t c : List ℕ) (x : Cursor) (sizes : List ℕ) : Type 0 where
   pub are : sizes ≡ owns c (placedAt t x)
 
 -- The steps of its parts, whatever stands behind them
-pub record Stepped (t c : List ℕ) (x : Cursor) (sizes outer : List ℕ) : Type 0 where
+pub record PairingSteps (t c : List ℕ) (x : Cursor) (sizes outer : List ℕ) : Type 0 where
   pub owned : Owned t c x sizes
   pub rest : List ℕ
   pub is : outer ≡ steps (size c (x .own)) (owns c (placedAt t x)) ++ rest
@@ -150,7 +150,7 @@ pub record Stepped (t c : List ℕ) (x : Cursor) (sizes outer : List ℕ) : Type
 -- Both, and how many roles each part has
 pub record Prepared (t c : List ℕ) (x : Cursor) (roles columns sizes outer ks : List ℕ) : Type 0 where
   pub columned : Columned t c x roles columns
-  pub stepped : Stepped t c x sizes outer
+  pub stepped : PairingSteps t c x sizes outer
   pub ks-are : ks ≡ counts (placedAt t x)
 
 -- All that is prepared, which gives the rows of the definition

@@ -17,7 +17,7 @@ ghost use Rattle.table.specs.Positions.{diagramOf};
 ghost use Rattle.selection.specs.Selected.{Types};
 ghost use Rattle.tuples.specs.Steps.{Small};
 ghost use Rattle.table.specs.Valid.{Valid};
-ghost use Rattle.population.specs.Plan.{cellsAt, Ready, Ordered, Opened, Columned, Owned, Stepped, Prepared, Complete};
+ghost use Rattle.population.specs.Plan.{cellsAt, AtPredicate, Ordered, Opened, Columned, Owned, PairingSteps, Prepared, Complete};
 
 // A call's result is a name in what is to be proved; an array written in place is all its numbers.
 fn part_space() -> [u32; 12] {
@@ -52,7 +52,7 @@ fn push_planned(
     out: &mut [u32],
     at: usize,
 ) -> usize
-    requires { ⌜ Ready (now t) (now c) x ⌝ }
+    requires { ⌜ AtPredicate (now t) (now c) x ⌝ }
     requires { ⌜ Complete (now t) (now c) x (now columns) (now outer) (now ks) (now inner) ⌝ }
     ensures { λ r. ⌜ Wrote (now (out .entry)) at (cellsAt (now (t .entry)) (now (c .entry)) x) (now (out .exit)) r ⌝ }
 {
@@ -75,7 +75,7 @@ fn push_prepared(
     out: &mut [u32],
     at: usize,
 ) -> usize
-    requires { ⌜ Ready (now t) (now c) x ⌝ }
+    requires { ⌜ AtPredicate (now t) (now c) x ⌝ }
     requires { ⌜ Prepared (now t) (now c) x (now roles) (now columns) (now sizes) (now outer) (now ks) ⌝ }
     ensures { λ r. ⌜ Wrote (now (out .entry)) at (cellsAt (now (t .entry)) (now (c .entry)) x) (now (out .exit)) r ⌝ }
 {
@@ -96,9 +96,9 @@ fn push_stepped(
     out: &mut [u32],
     at: usize,
 ) -> usize
-    requires { ⌜ Ready (now t) (now c) x ⌝ }
+    requires { ⌜ AtPredicate (now t) (now c) x ⌝ }
     requires { ⌜ Columned (now t) (now c) x (now roles) (now columns) ⌝ }
-    requires { ⌜ Stepped (now t) (now c) x (now sizes) (now outer) ⌝ }
+    requires { ⌜ PairingSteps (now t) (now c) x (now sizes) (now outer) ⌝ }
     ensures { λ r. ⌜ Wrote (now (out .entry)) at (cellsAt (now (t .entry)) (now (c .entry)) x) (now (out .exit)) r ⌝ }
 {
     let mut ks = part_space();
@@ -117,7 +117,7 @@ fn push_sized(
     out: &mut [u32],
     at: usize,
 ) -> usize
-    requires { ⌜ Ready (now t) (now c) x ⌝ }
+    requires { ⌜ AtPredicate (now t) (now c) x ⌝ }
     requires { ⌜ Columned (now t) (now c) x (now roles) (now columns) ⌝ }
     requires { ⌜ Owned (now t) (now c) x (now sizes) ⌝ }
     ensures { λ r. ⌜ Wrote (now (out .entry)) at (cellsAt (now (t .entry)) (now (c .entry)) x) (now (out .exit)) r ⌝ }
@@ -139,7 +139,7 @@ fn push_columned(
     out: &mut [u32],
     at: usize,
 ) -> usize
-    requires { ⌜ Ready (now t) (now c) x ⌝ }
+    requires { ⌜ AtPredicate (now t) (now c) x ⌝ }
     requires { ⌜ Columned (now t) (now c) x (now roles) (now columns) ⌝ }
     requires { ⌜ Opened (now t) x a (now roles) ⌝ }
     ensures { λ r. ⌜ Wrote (now (out .entry)) at (cellsAt (now (t .entry)) (now (c .entry)) x) (now (out .exit)) r ⌝ }
@@ -160,7 +160,7 @@ fn push_ordered(
     out: &mut [u32],
     at: usize,
 ) -> usize
-    requires { ⌜ Ready (now t) (now c) x ⌝ }
+    requires { ⌜ AtPredicate (now t) (now c) x ⌝ }
     requires { ⌜ Types (now t) (now types) ⌝ }
     requires { ⌜ Ordered (now t) x (now roles) ⌝ }
     requires { ⌜ Opened (now t) x a (now roles) ⌝ }
@@ -180,7 +180,7 @@ fn push_pred(
     out: &mut [u32],
     at: usize,
 ) -> usize
-    requires { ⌜ Ready (now t) (now c) x ⌝ }
+    requires { ⌜ AtPredicate (now t) (now c) x ⌝ }
     requires { ⌜ Types (now t) (now types) ⌝ }
     ensures { λ r. ⌜ Wrote (now (out .entry)) at (cellsAt (now (t .entry)) (now (c .entry)) x) (now (out .exit)) r ⌝ }
 {

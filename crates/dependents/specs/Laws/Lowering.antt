@@ -10,8 +10,7 @@ use Rattle.counting.specs.Terms.{_∈_}
 use Rattle.fixpoint.specs.Limits.{Limit, valueOf, lowered, round}
 use Rattle.fixpoint.specs.Notions.{_≼_}
 use Rattle.fixpoint.specs.Laws.Order.{≼-refl, ≼-trans, ≼-antisym}
-use Rattle.fixpoint.specs.Laws.Round.{le-lowered, le-round, round-≼}
-use Rattle.fixpoint.specs.Laws.Part.{round-target}
+use Rattle.fixpoint.specs.Laws.Round.{le-lowered, le-round, round-≼, round-target}
 use Rattle.lowering.specs.Sizes.{Small}
 use Rattle.lowering.specs.Encoding.{limitAt, decode}
 use Rattle.lowering.specs.Closed.{Start, Closed}

@@ -3,12 +3,12 @@ use Prim.Native.Nat.{ℕ, zero, suc, _≤_, min}
 use mathlib.Core.Path.{_≡_, refl, sym, subst, _∙_}
 use mathlib.Core.Logic.{_↔_}
 use mathlib.Core.List.{List, [], _∷_}
-use native.Mathlib.Nat.{le-trans, zero-min, le-min}
+use native.Mathlib.Nat.{le-refl, le-trans, zero-min, le-min}
 use native.Mathlib.Decide.{ℕ-discrete}
 use native.Mathlib.Omega.{arith}
 use lib.ListN.{length, getD, set, length-set}
 use lib.Seq.{getD-set-other}
-use Rattle.counting.specs.Terms.{Each}
+use Rattle.counting.specs.Terms.{_∈_, Each}
 use Rattle.counting.specs.Laws.Members.{each-nil, each-cons, each-head, each-tail}
 use Rattle.fixpoint.specs.Limits.{Limit, valueOf, lowered, loweredBy, round, upperAfter}
 use Rattle.fixpoint.specs.Notions.{_≼_, Satisfies, Solution}
@@ -95,3 +95,7 @@ module _ (ls : List Limit) where
     unfolding upperAfter
     upperAfter-sound x s zero = s .under
     upperAfter-sound x s (suc n) = round-sound (s .limits) (upperAfter-sound x s n)
+
+-- What a round leaves of a limit's target is at most the limit's value at the old sizes
+pub round-target : (ls : List Limit) (c : List ℕ) (l : Limit) → l ∈ ls → getD (round ls c) (l .target) 0 ≤ valueOf c (l .most)
+round-target ls c l m = le-round ls c (l .target) (getD (round ls c) (l .target) 0) .0 (le-refl _) .1 l m refl

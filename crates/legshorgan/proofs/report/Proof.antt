@@ -1,6 +1,6 @@
 -- `legshorgan::report` meets its contract. The buffer has room for all that is printed.
 -- Assumes nothing.
-use Rattle.command.specs.Laws.Inside.{wrote-inside, wrote-counts}
+use Rattle.buffer.specs.Laws.{wrote-front-inside, wrote-front-counts}
 use Rattle.command.specs.Laws.Whole.{output-length, output-front, output-behind}
 use borrow.Author.Needs.{needs}
 use Rattle.legshorgan.proofs.report.Statement.{statement}
@@ -13,5 +13,5 @@ report-spec =
     (λ c κs. search needs)
     (λ c. (
       search (needs, output-length),
-      (search (needs, output-front), (search (needs, output-behind), (search (needs, wrote-inside), search (needs, wrote-counts)))),
+      (search (needs, output-front), (search (needs, output-behind), (search (needs, wrote-front-inside), search (needs, wrote-front-counts)))),
     )))

@@ -4,7 +4,7 @@ use Prim.Native.Nat.{_-_}
 use lib.ListN.{length}
 use borrow.Author.Needs.{needs}
 use Rattle.lines_main.proofs.Reporting.{Reporting, reporting-start, reporting-long, reporting-line, reporting-less, reporting-left}
-use Rattle.lines_main.proofs.Writing.{wrote-within, wrote-counts}
+use Rattle.buffer.specs.Laws.{wrote-inside, wrote-counts}
 use Rattle.lines_main.proofs.report.Statement.{statement}
 use Rattle.lines_main.proofs.report.Tie as tie
 
@@ -32,4 +32,4 @@ report-spec =
     (λ c. search needs)
     (λ c κs. search needs)
     (λ c. search (needs, reporting-long))
-    (λ c. search (needs, reporting-left, wrote-within, wrote-counts)))
+    (λ c. search (needs, reporting-left, wrote-inside, wrote-counts)))

@@ -2,7 +2,7 @@
 -- Assumes nothing.
 use Rattle.columns.specs.Values.{valuesIn}
 use Rattle.blocks.specs.Standing.{Standing, standing-start, standing-here, standing-inside, standing-more}
-use Rattle.playing.specs.Marks.{Ready}
+use Rattle.playing.specs.Marks.{Markable}
 use Rattle.playing.proofs.Marking.{PredsLeft, still-ready, same-ready, preds-start, preds-mark, preds-marked}
 use borrow.Author.Needs.{needs}
 use Rattle.playing.proofs.mark_preds.Statement.{statement}
@@ -11,7 +11,7 @@ use Rattle.playing.proofs.mark_preds.Tie as tie
 abbrev Inv-loop : tie.InvT-loop
 Inv-loop t cells number members list marks₀ pred₀ at₀ left₀ marks pred at left =
     Standing t cells pred at left
-    × Ready cells members list marks
+    × Markable cells members list marks
     × PredsLeft (valuesIn cells members) marks₀ marks t cells number pred at left
 
 abbrev μ-loop : tie.MeasureT-loop

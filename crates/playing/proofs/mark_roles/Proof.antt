@@ -5,7 +5,7 @@ use mathlib.Core.Path.{_≡_}
 use lib.ListN.{length}
 use Rattle.columns.specs.Values.{valuesIn}
 use Rattle.blocks.specs.Standing.{column-reached}
-use Rattle.playing.specs.Marks.{Ready}
+use Rattle.playing.specs.Marks.{Markable}
 use Rattle.playing.proofs.Marking.{RolesLeft, still-ready, same-ready, roles-start, roles-more, roles-marked}
 use borrow.Author.Needs.{needs}
 use Rattle.playing.proofs.mark_roles.Statement.{statement}
@@ -15,7 +15,7 @@ abbrev Inv-loop : tie.InvT-loop
 Inv-loop t cells number pred at members list marks₀ w role₀ j₀ left₀ marks role j left =
     (j + left ≡ w)
     × (role + 3 * left ≤ length t)
-    × Ready cells members list marks
+    × Markable cells members list marks
     × RolesLeft (valuesIn cells members) marks₀ marks t cells number pred at role j left
 
 abbrev μ-loop : tie.MeasureT-loop

@@ -5,7 +5,7 @@ use mathlib.Core.Path.{_≡_}
 use Rattle.columns.specs.Values.{valuesIn}
 use Rattle.columns.specs.Walks.{next-here}
 use Rattle.columns.specs.Reach.{endOfColumn, left-reached, left-after}
-use Rattle.playing.specs.Marks.{Ready}
+use Rattle.playing.specs.Marks.{Markable}
 use Rattle.playing.proofs.Marking.{ValuesLeft, still-ready, same-ready, values-start, values-more, values-end}
 use borrow.Author.Needs.{needs}
 use Rattle.playing.proofs.mark_values.Statement.{statement}
@@ -14,7 +14,7 @@ use Rattle.playing.proofs.mark_values.Tie as tie
 abbrev Inv-loop : tie.InvT-loop
 Inv-loop cells values members list marks₀ at₀ left₀ marks at left =
     (at + left * values .step ≡ endOfColumn values)
-    × Ready cells members list marks
+    × Markable cells members list marks
     × ValuesLeft (valuesIn cells members) marks₀ marks cells values at left
 
 abbrev μ-loop : tie.MeasureT-loop

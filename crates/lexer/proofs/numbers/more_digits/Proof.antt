@@ -3,13 +3,13 @@
 -- Assumes nothing.
 use Prim.Native.Nat.{_-_}
 use lib.ListN.{length}
-use Rattle.lexer.proofs.Digits.{digit-low, digit-high, Few, few-times, few-plus, few-more, Digits, digits-end, digits-other, digits-many, digits-more}
+use Rattle.lexer.proofs.Digits.{digit-low, digit-high, FewDigits, few-times, few-plus, few-more, Digits, digits-end, digits-other, digits-many, digits-more}
 use borrow.Author.Needs.{needs}
 use Rattle.lexer.proofs.numbers.more_digits.Statement.{statement}
 use Rattle.lexer.proofs.numbers.more_digits.Tie as tie
 
 abbrev Inv-loop : tie.InvT-loop
-Inv-loop text start most first at₀ left₀ v₀ at left v = Few v left × Digits text start most first at left v
+Inv-loop text start most first at₀ left₀ v₀ at left v = FewDigits v left × Digits text start most first at left v
 
 abbrev μ-loop : tie.MeasureT-loop
 μ-loop text start most first at₀ left₀ v₀ at left v = length text - at

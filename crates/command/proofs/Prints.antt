@@ -43,7 +43,7 @@ use Rattle.populate.specs.Tied.{demand-3}
 use Rattle.report.specs.Printed.{printed}
 use Rattle.report.specs.Laws.Printed.{printed-report}
 use Rattle.command.specs.Reports.{refusalLine, settlementLine, textReport, tableReport}
-use Rattle.command.specs.Laws.TableLength.{table-short}
+use Rattle.table.specs.Laws.TableOf.{table-short}
 use Rattle.command.specs.Laws.Reports.{emptied-report, settled-report, large-report, table-accepted, table-report, text-report, faulty-report}
 use Rattle.command.specs.Laws.Reports.{program-cut, program-whole}
 

@@ -1,4 +1,3 @@
 -- The laws of what is printed.
-pub mod TableLength
 pub mod Reports
 pub mod Whole

@@ -12,7 +12,8 @@ use lib.ListN.{length, getD, drop, drop-of-length-le}
 use lib.Seq.{drop-cons}
 use borrow.Author.Tests.{lt-ltb, le-ltb, ltb-false, eqb-true}
 use Rattle.fixpoint.specs.Limits.{firstBelow}
-use Rattle.dependents.specs.Dependents.{Below, when, differing}
+use Rattle.counting.specs.Lists.{when}
+use Rattle.dependents.specs.Dependents.{Below, differing}
 use Rattle.rounds.specs.declared.Lowest.the-variants.{At, Nowhere}
 use Rattle.rounds.specs.Answer.{lowestOf, firstIn}
 

@@ -1,17 +1,12 @@
 -- Words for what single functions write and count.
 use Prim.Native.Nat.{ℕ, suc, _≤_}
 use mathlib.Core.Path.{_≡_}
-use mathlib.Core.Bool.{Bool, true, false}
 use mathlib.Core.List.{List, [], _∷_, _++_, map}
 use lib.Dec.{eqb}
 use lib.ListN.{length}
+use Rattle.counting.specs.Lists.{when}
 use Rattle.orm.specs.Diagram.{Role, allRoles}
 use Rattle.table.specs.Positions.{diagramOf}
-
--- The number if the test holds
-abbrev pub when : Bool → ℕ → List ℕ
-when true x = x ∷ []
-when false x = []
 
 abbrev pub typesOf : List Role → List ℕ
 typesOf rs = map (λ (r : Role). r .type) rs

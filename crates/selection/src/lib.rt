@@ -5,13 +5,13 @@ ghost use mathlib.Core.Bool.{not};
 ghost use Prim.Native.Nat.{_+_, _*_, _-_, _≤_, _<_};
 ghost use lib.Dec.{eqb};
 ghost use lib.ListN.{length, getD, drop};
-ghost use Rattle.counting.specs.Lists.{upFrom};
+ghost use Rattle.counting.specs.Lists.{when, upFrom};
 ghost use Rattle.orm.specs.Sets.{rolesInGroup, groupRoles};
 ghost use Rattle.buffer.specs.Written.{Wrote};
 ghost use Rattle.orm.specs.Diagram.{allRoles};
 ghost use Rattle.table.specs.Positions.{rolesIn, diagramOf, Walkable};
 ghost use Rattle.table.specs.Cursors.{placedAt, Here};
-ghost use Rattle.selection.specs.Selected.{when, typesOf, positions, Types};
+ghost use Rattle.selection.specs.Selected.{typesOf, positions, Types};
 
 // ---- single numbers
 

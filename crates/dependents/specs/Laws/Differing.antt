@@ -8,8 +8,8 @@ use mathlib.Core.List.{List, [], _∷_, _++_}
 use lib.Dec.{eqb}
 use lib.ListN.{length, getD}
 use borrow.Author.Tests.{eq-eqb, ne-eqb, eqb-true}
-use Rattle.counting.specs.Lists.{same}
-use Rattle.dependents.specs.Dependents.{when, differing}
+use Rattle.counting.specs.Lists.{when, same}
+use Rattle.dependents.specs.Dependents.{differing}
 
 pub differing-below : (i : ℕ) (c c′ : List ℕ) (k : ℕ) → k < length (differing i c c′) → getD (differing i c c′) k 0 < i + length c′
 unfolding differing

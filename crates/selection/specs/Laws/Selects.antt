@@ -10,7 +10,7 @@ use lib.ListN.{length, getD, drop, length-append, drop-of-length-le}
 use lib.Seq.{drop-drop, drop-cons}
 use Rattle.orm.specs.Diagram.{Role}
 use Rattle.orm.specs.Form.{roleOf}
-use Rattle.counting.specs.Lists.{upFrom}
+use Rattle.counting.specs.Lists.{when, upFrom}
 use Rattle.orm.specs.Sets.{select, rolesInGroup, groupRoles}
 use Rattle.buffer.specs.Written.{Wrote, Splits}
 use Rattle.buffer.specs.Laws.{wrote-as, wrote-none}
@@ -18,7 +18,7 @@ use Rattle.table.specs.Positions.{rolesIn}
 use Rattle.table.specs.Laws.Walks.{each-more, each-none}
 use Rattle.table.specs.Cursors.{placedAt}
 use Rattle.table.specs.declared.Cursor.{Cursor}
-use Rattle.selection.specs.Selected.{when, typesOf, positions}
+use Rattle.selection.specs.Selected.{typesOf, positions}
 
 pub when-true : {o o′ : List ℕ} {at to x : ℕ} {b : Bool} → b ≡ true → Wrote o at (x ∷ []) o′ to → Wrote o at (when b x) o′ to
 when-true e w = rw e w

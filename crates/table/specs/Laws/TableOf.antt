@@ -6,6 +6,7 @@ use mathlib.Core.Path.{_≡_, refl, sym, ap, ap₂, _∙_}
 use mathlib.Core.List.{List, [], _∷_, _++_, map, flatMap, append-assoc}
 use lib.ListN.{length, getD, drop, length-append}
 use lib.Seq.{drop-at, drop-drop}
+use Rattle.orm.specs.WellFormed.{WellFormed}
 use Rattle.orm.specs.Diagram.{ObjectType, Role, Frequency, Predicate, Diagram, Line, lineOfType, lineOfRole, lineOfGroup, lineOfPred}
 use Rattle.orm.specs.Diagram.{linesOfPred, lineOfCount, predsLine, endLine, allRoles, allGroups, lines, table}
 use Rattle.orm.specs.Form.{typeOf, roleOf, groupOf}
@@ -218,3 +219,7 @@ module _ (d : Diagram) where
       let preds : List ℕ = values (flatMap linesOfPred (d .preds)) in
       rw table-whole
       (omega (arith, length-append types from-preds, types-long (d .types), length-append preds last, preds-count (d .preds)))
+
+  -- of every diagram
+  pub table-short : WellFormed d → length (table d) ≤ 708
+  table-short w = omega (arith, table-length, w .typeCount .1, w .predCount .1, w .roleCount, w .groupCount)

@@ -6,7 +6,8 @@ use lib.ListN.{length}
 use Rattle.orm.specs.Diagram.{Predicate, Diagram, Line, diagramLine, typesLine, lineOfCount, lineOfType, linesOfPred, allRoles}
 use Rattle.reading.specs.Exact.{written}
 use Rattle.reading.specs.Cutting.{textForm}
-use Rattle.table.specs.Positions.{diagramOf, Walkable}
+use Rattle.table.specs.Positions.{diagramOf}
+use Rattle.table.specs.Valid.{Valid}
 
 -- The text of some lines
 abbrev pub linesText : List Line → List ℕ
@@ -19,9 +20,9 @@ linesToTypes d = lineOfCount diagramLine 1 ∷ lineOfCount typesLine (length (d 
 abbrev pub predLines : List Predicate → List ℕ
 predLines ps = linesText (flatMap linesOfPred ps)
 
--- A table whose diagram has so many types, predicates and roles
+-- A valid table, whose diagram has so many types, predicates and roles
 pub record Counted (t : List ℕ) (m n r : ℕ) : Type 0 where
-  pub walkable : Walkable t
+  pub valid : Valid t
   pub types : m ≡ length (diagramOf t .types)
   pub preds : n ≡ length (diagramOf t .preds)
   pub roles : r ≡ length (allRoles (diagramOf t))

@@ -1,21 +1,23 @@
 // Writing a diagram: from its table into its text.
 //
-// The text is put together in a scratch buffer and copied at the end, so that a call whose text is too
-// short writes nothing. The functions below write from the index `at` on and answer the index behind
-// what they wrote.
+// Where the lent text has room for every diagram, it is written at once. Elsewhere the length is found
+// out first, so that a call whose text is too short writes nothing. The functions below write from the
+// index `at` on and answer the index behind what they wrote.
 use reader::Conversion;
 ghost use mathlib.Core.Path.{_≡_};
-ghost use mathlib.Core.List.{_++_};
 ghost use Prim.Native.Nat.{_+_, _≤_};
-ghost use lib.ListN.{length, take, drop};
+ghost use lib.ListN.{length, drop};
 ghost use Rattle.orm.specs.Diagram.{linesOfPred};
 ghost use Rattle.orm.specs.Text.{render};
-ghost use Rattle.orm.specs.Outcome.{lengthOf, fitted, bufferAfter};
+ghost use Rattle.orm.specs.Outcome.{lengthOf, bufferAfter};
 ghost use Rattle.orm.specs.Calls.{writeCall};
 ghost use Rattle.buffer.specs.Written.{Wrote};
 ghost use Rattle.table.specs.Positions.{predOf, predLength, diagramOf, Walkable};
 ghost use Rattle.reader.specs.Answer.{conversionOf};
 ghost use Rattle.writer.specs.Lines.{linesText, linesToTypes, predLines, Counted};
+
+// No diagram has a longer text.
+const MOST_TEXT: usize = 3603;
 
 // The lines of the predicate that starts at p.
 fn push_pred(t: &[u32], p: usize, out: &mut [u8], at: usize) -> usize
@@ -68,35 +70,21 @@ fn push_text(t: &[u32], types: usize, preds: usize, roles: usize, out: &mut [u8]
     numerals::push_count(out, c, b"end=", roles)
 }
 
-// The first `n` bytes of `src` go to the front of `dst`.
-fn copy(src: &[u8], n: usize, dst: &mut [u8])
-    requires { ⌜ n ≤ length (now src) ⌝ }
-    requires { ⌜ n ≤ length (now dst) ⌝ }
-    ensures { λ _. ⌜ now (dst .exit) ≡ take n (now (src .entry)) ++ drop n (now (dst .entry)) ⌝ }
-{
-    let mut i = 0;
-    while i < n {
-        dst[i] = src[i];
-        i += 1;
-    }
+fn scratch() -> [u8; MOST_TEXT] {
+    [0u8; MOST_TEXT]
 }
 
-// The first `n` bytes go to the front of the text, if it has room for them.
-fn hand_out(n: usize, bytes: &[u8], text: &mut [u8]) -> Conversion
-    requires { ⌜ n ≤ length (now bytes) ⌝ }
-    ensures { λ r. ⌜ conversionOf r ≡ lengthOf (fitted (length (now (text .entry))) (take n (now (bytes .entry)))) ⌝ }
-    ensures { λ _. ⌜ now (text .exit) ≡ bufferAfter (fitted (length (now (text .entry))) (take n (now (bytes .entry)))) (now (text .entry)) ⌝ }
+// The length of the text: where it ends in scratch, which has room for every diagram.
+fn text_length(t: &[u32], types: usize, preds: usize, roles: usize) -> usize
+    requires { ⌜ Counted (now t) types preds roles ⌝ }
+    ensures { λ r. ⌜ r ≡ length (render (diagramOf (now (t .entry)))) ⌝ }
 {
-    if text.len() < n {
-        return Conversion::TooShort { needed: n };
-    }
-    copy(bytes, n, text);
-    Conversion::Accepted { length: n }
+    let mut bytes = scratch();
+    push_text(t, types, preds, roles, &mut bytes)
 }
 
-// Writes by way of `bytes`.
-fn write_by(table: &[u32], bytes: &mut [u8], text: &mut [u8]) -> Conversion
-    requires { ⌜ length (now bytes) ≡ 3603 ⌝ }
+// Writes the text of a diagram from its table.
+pub fn write(table: &[u32], text: &mut [u8]) -> Conversion
     ensures { λ r. ⌜ conversionOf r ≡ lengthOf (writeCall (now (table .entry)) (length (now (text .entry)))) ⌝ }
     ensures { λ _. ⌜ now (text .exit) ≡ bufferAfter (writeCall (now (table .entry)) (length (now (text .entry)))) (now (text .entry)) ⌝ }
 {
@@ -109,22 +97,14 @@ fn write_by(table: &[u32], bytes: &mut [u8], text: &mut [u8]) -> Conversion
             roles,
             groups: _,
         } => {
-            let n = push_text(table, types, preds, roles, bytes);
-            hand_out(n, bytes, text)
+            if text.len() < MOST_TEXT {
+                let needed = text_length(table, types, preds, roles);
+                if text.len() < needed {
+                    return Conversion::TooShort { needed };
+                }
+            }
+            let length = push_text(table, types, preds, roles, text);
+            Conversion::Accepted { length }
         }
     }
-}
-
-// No diagram has a longer text.
-fn scratch() -> [u8; 3603] {
-    [0u8; 3603]
-}
-
-// Writes the text of a diagram from its table.
-pub fn write(table: &[u32], text: &mut [u8]) -> Conversion
-    ensures { λ r. ⌜ conversionOf r ≡ lengthOf (writeCall (now (table .entry)) (length (now (text .entry)))) ⌝ }
-    ensures { λ _. ⌜ now (text .exit) ≡ bufferAfter (writeCall (now (table .entry)) (length (now (text .entry)))) (now (text .entry)) ⌝ }
-{
-    let mut bytes = scratch();
-    write_by(table, &mut bytes, text)
 }

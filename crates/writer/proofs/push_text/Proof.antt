@@ -1,5 +1,6 @@
 -- `writer::push_text` meets its contract. Its parts are written one after another.
 -- Assumes nothing.
+use Rattle.table.specs.Laws.Valid.{valid-walkable}
 use Rattle.writer.proofs.Texts.{text-is}
 use Rattle.orm.specs.Text.{bytes}
 use borrow.Author.Needs.{needs}
@@ -14,7 +15,7 @@ push-text-spec =
     (λ c κs. search needs)
     (λ c. search needs)
     (λ c κs. search needs)
-    (λ c κs. search needs)
+    (λ c κs. search (needs, valid-walkable))
     (λ c. search needs)
     (λ c κs. search needs)
     (λ c. search needs)

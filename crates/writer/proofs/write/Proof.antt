@@ -1,5 +1,7 @@
--- `writer::write` meets its contract, by way of a scratch buffer.
+-- `writer::write` meets its contract. There is room for every text, or the length is found out first.
 -- Assumes nothing.
+use Rattle.writer.proofs.Answers.{refused-outcome, refused-kept, valid, counted, short-outcome, short-kept, room-found, room-most, whole-outcome, whole-written}
+use mathlib.Core.Logic.{⊎-elim}
 use borrow.Author.Needs.{needs}
 use Rattle.writer.proofs.write.Statement.{statement}
 use Rattle.writer.proofs.write.Tie as tie
@@ -10,6 +12,12 @@ write-spec =
     (tie.spec
     (λ c κs. search needs)
     (λ c. search needs)
-    (λ c κs. search needs)
     (λ c. search needs)
-    (λ c. search needs))
+    (λ c κs. search (needs, counted))
+    (λ c. search (needs, short-outcome, short-kept))
+    (λ c κs. search (needs, counted))
+    (λ c. search (needs, refused-outcome, refused-kept))
+    (λ c. search needs)
+    (λ c.
+    ⊎-elim (λ w. search (needs, whole-outcome, whole-written, room-found)) (λ w. search (needs, whole-outcome, whole-written, valid, room-most))
+    (c .before .before .before .before .if1 .came)))

@@ -179,10 +179,10 @@ module _ {t : List ℕ} {roles groups : ℕ} (known : ValidTotals t roles groups
   whole : t ≡ table (diagramOf t)
   whole = table-accepted-iff t (diagramOf t) .0 (known .valid .reads) .0
 
-  pub space-any : length a ≡ 6752 → length b ≡ 208 → length c ≡ 208 → length d ≡ 208 → length e ≡ 208 → length f ≡ 13712
+  pub space-any : length a ≡ 3776 → length b ≡ 208 → length c ≡ 208 → length d ≡ 208 → length e ≡ 208 → length f ≡ 7760
       → Space t a b c d e f
   space-any ha hb hc hd he hf =
-      let m : length (encode (limits (diagramOf t))) ≤ 6752 = limits-fit (diagramOf t) (known .valid .formed) in
+      let m : length (encode (limits (diagramOf t))) ≤ 3776 = limits-fit (diagramOf t) (known .valid .formed) in
       record {
         limits-room = omega arith;
         lower-room = omega (arith, few);

@@ -99,8 +99,8 @@ fn check_in(
 }
 
 // A call's result is a name in what is to be proved; an array written in place is all its numbers.
-fn limit_space() -> [u32; 6752] {
-    [0u32; 6752]
+fn limit_space() -> [u32; 3776] {
+    [0u32; 3776]
 }
 
 fn set_space() -> [u32; 208] {
@@ -111,8 +111,8 @@ fn place_space() -> [usize; 208] {
     [0usize; 208]
 }
 
-fn link_space() -> [u32; 13712] {
-    [0u32; 13712]
+fn link_space() -> [u32; 7760] {
+    [0u32; 7760]
 }
 
 fn few_limits() -> [u32; 600] {

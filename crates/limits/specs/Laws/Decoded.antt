@@ -14,6 +14,6 @@ use Rattle.buffer.specs.Laws.{wrote-front}
 use Rattle.limits.specs.Laws.Room.{limits-fit}
 
 -- `m` numbers were written
-pub limits-decode : (d : Diagram) → WellFormed d → {o o′ : List ℕ} {m : ℕ} → 6752 ≤ length o → Wrote o 0 (encode (limits d)) o′ m
+pub limits-decode : (d : Diagram) → WellFormed d → {o o′ : List ℕ} {m : ℕ} → 3776 ≤ length o → Wrote o 0 (encode (limits d)) o′ m
     → decode (take m o′) ≡ limits d
 limits-decode d w h v = ap decode (wrote-front v (omega (arith, limits-fit d w))) ∙ decode-encode (limits d)

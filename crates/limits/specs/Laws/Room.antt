@@ -14,6 +14,7 @@ use Rattle.fixpoint.specs.Limits.{Limit, product, sum}
 use Rattle.counting.specs.Terms.{Each}
 use Rattle.counting.specs.Laws.Range.{length-upFrom}
 use Rattle.orm.specs.WellFormed.{PredForm, WellFormed}
+use Rattle.orm.specs.Laws.Select.{playedFrom, played-few, played-split}
 use Rattle.orm.specs.Sets.{firstPred, firstRole, firstGroup, select, rolesOfType, rolesInGroup, Placed}
 use Rattle.orm.specs.Sets.{placedFrom, placed, groupSet, groupRoles, Part, groupPart, rolePart, parts, atMost, onlyIf, limitsOfRole}
 use Rattle.orm.specs.Sets.{limitsOfGroup, limitOfRows, limitsOfPred, limitsOfType, limits}
@@ -142,21 +143,14 @@ size-preds types r p q (a ∷ ps) h =
       length-append (a .groups) (flatMap (λ (b : Predicate). b .groups) ps),
     )
 
-module _ (d : Diagram) (w : WellFormed d) (most : ℕ) (few : length (allRoles d) ≤ most) where
-  size-type : (a : ℕ) (t : ObjectType) → size (limitsOfType d a t) ≤ 9 + most
-  unfolding limitsOfType rolesOfType
+module _ (d : Diagram) (w : WellFormed d) where
+  size-type : (a : ℕ) (t : ObjectType) → size (limitsOfType d a t) ≤ 9 + length (rolesOfType d (suc a))
+  unfolding limitsOfType
   size-type a t =
       let ss : List Limit = onlyIf (not (isRoot t)) (atMost a (index (t .super))) in
       let played : Limit = record { target = a; most = sum (rolesOfType d (suc a)) } in
       let ps : List Limit = onlyIf (not (isIndependent t)) played in
-      let one : size (played ∷ []) ≤ 4 + most =
-      omega (
-        arith,
-        size-sum a (rolesOfType d (suc a)) [],
-        size-none,
-        select-le (λ (r : Role). eqb (r .type) (suc a)) (firstRole d)
-            (allRoles d),
-      ) in
+      let one : size (played ∷ []) ≤ 4 + length (rolesOfType d (suc a)) = omega (arith, size-sum a (rolesOfType d (suc a)) [], size-none) in
       omega (
         arith,
         size-append ss ps,
@@ -164,8 +158,21 @@ module _ (d : Diagram) (w : WellFormed d) (most : ℕ) (few : length (allRoles d
         size-only-if (not (isIndependent t)) played one,
       )
 
-  limits-size : length (encode (limits d))
-      ≤ 20 * length (allRoles d) + 20 * length (allGroups d) + 16 * length (d .preds) + (9 + most) * length (d .types)
+  -- a role is played by one type
+  size-types : (a : ℕ) (ts : List ObjectType)
+      → size (flatten (mapFrom (limitsOfType d) a ts)) ≤ 9 * length ts + playedFrom (suc a) (allRoles d)
+  unfolding flatten mapFrom rolesOfType
+  size-types a [] = omega (arith, size-none)
+  size-types a (t ∷ ts) =
+      omega (
+        arith,
+        size-append (limitsOfType d a t) (flatten (mapFrom (limitsOfType d) (suc a) ts)),
+        size-type a t,
+        size-types (suc a) ts,
+        played-split (suc a) (firstRole d) (allRoles d),
+      )
+
+  limits-size : length (encode (limits d)) ≤ 21 * length (allRoles d) + 20 * length (allGroups d) + 16 * length (d .preds) + 9 * length (d .types)
   unfolding limits placed allRoles allGroups
   limits-size =
       let ps : List Limit = flatMap limitsOfPred (placed d) in
@@ -174,17 +181,14 @@ module _ (d : Diagram) (w : WellFormed d) (most : ℕ) (few : length (allRoles d
         arith,
         size-append ps ts,
         size-preds (length (d .types)) (firstPred d) (firstRole d) (firstGroup d) (d .preds) (w .preds),
-        size-items (9 + most) (limitsOfType d) size-type 0 (d .types),
+        size-types 0 (d .types),
+        played-few 1 (allRoles d),
       )
 
-module _ (d : Diagram) (w : WellFormed d) where
   -- of every diagram
-  pub limits-fit : length (encode (limits d)) ≤ 6752
-  limits-fit =
-      omega (arith, limits-size d w 96 (w .roleCount), w .typeCount .1, w .predCount .1, w .roleCount, w .groupCount)
+  pub limits-fit : length (encode (limits d)) ≤ 3776
+  limits-fit = omega (arith, limits-size, w .typeCount .1, w .predCount .1, w .roleCount, w .groupCount)
 
   -- of one with a table of at most 64 numbers
   pub few-limits-fit : length (table d) ≤ 64 → length (encode (limits d)) ≤ 600
-  few-limits-fit h =
-      let few : length (allRoles d) ≤ 20 = omega (arith, table-length d) in
-      omega (arith, limits-size d w 20 few, table-length d)
+  few-limits-fit h = omega (arith, limits-size, table-length d)

@@ -1,10 +1,14 @@
 -- The places of the roles that pass a test: what `select` makes.
-use Prim.Native.Nat.{ℕ, suc, _+_}
+use Prim.Native.Nat.{ℕ, suc, _+_, _≤_, _<_}
 use mathlib.Core.Path.{_≡_, refl, sym, ap, _∙_}
 use mathlib.Core.Bool.{Bool, true, false, false≢true}
 use mathlib.Core.List.{List, [], _∷_, map, List·Memᴰ·head as here, List·Memᴰ·tail as there, List·Memᴰ·not-nil}
 use native.Mathlib.Nat.{add-zero, add-suc, suc-add}
+use native.Mathlib.Decide.{decLe, ℕ-discrete}
 use native.Mathlib.Omega.{arith}
+use lib.Dec.{eqb, leb}
+use lib.ListN.{length}
+use borrow.Author.Tests.{eq-eqb, ne-eqb, le-leb, lt-leb}
 use Rattle.counting.specs.Terms.{_∈_, NoRepeats}
 use Rattle.counting.specs.Laws.Index.{At, first, later}
 use Rattle.orm.specs.Diagram.{Role}
@@ -66,3 +70,42 @@ module _ (test : Role → Bool) where
           (elim b [ true ↦ i ∷ select test (suc i) rs | false ↦ select test (suc i) rs ])
       go true e = ap (λ l. (n + i) ∷ l) e
       go false e = e
+
+-- ---- a role has one type
+
+-- How many roles have a type with at least this number
+unfoldable pub playedFrom : ℕ → List Role → ℕ
+playedFrom m [] = 0
+playedFrom m (r ∷ rs) = elim (leb m (r .type)) [ true ↦ suc (playedFrom m rs) | false ↦ playedFrom m rs ]
+
+pub played-few : (m : ℕ) (rs : List Role) → playedFrom m rs ≤ length rs
+unfolding playedFrom
+played-few m [] = omega arith
+played-few m (r ∷ rs) = go (leb m (r .type)) (played-few m rs)
+  where
+    go : (b : Bool) → playedFrom m rs ≤ length rs
+        → _≤_ (elim b as (λ _. ℕ) [ true ↦ suc (playedFrom m rs) | false ↦ playedFrom m rs ]) (suc (length rs))
+    go true h = omega arith
+    go false h = omega arith
+
+-- those of just this type, and those of the types behind it
+pub played-split : (m i : ℕ) (rs : List Role)
+    → length (select (λ (r : Role). eqb (r .type) m) i rs) + playedFrom (suc m) rs ≡ playedFrom m rs
+unfolding playedFrom select
+played-split m i [] = refl
+played-split m i (r ∷ rs) = go (ℕ-discrete (r .type) m) (decLe m (r .type)) (played-split m (suc i) rs)
+  where
+    go : Dec (r .type ≡ m) → Dec (m ≤ r .type)
+        → length (select (λ (r : Role). eqb (r .type) m) (suc i) rs) + playedFrom (suc m) rs ≡ playedFrom m rs
+        → length (select (λ (r : Role). eqb (r .type) m) i (r ∷ rs)) + playedFrom (suc m) (r ∷ rs) ≡ playedFrom m (r ∷ rs)
+    go (yes e) _ h =
+        let l : m ≤ r .type = omega arith in
+        let u : r .type < suc m = omega arith in
+        rw (eq-eqb (r .type) m e, lt-leb (suc m) (r .type) u, le-leb m (r .type) l, select, playedFrom) (omega arith)
+    go (no n) (yes l) h =
+        let u : suc m ≤ r .type = omega (arith, n) in
+        rw (ne-eqb (r .type) m n, le-leb (suc m) (r .type) u, le-leb m (r .type) l, select, playedFrom) (omega arith)
+    go (no n) (no l) h =
+        let u : r .type < suc m = omega arith in
+        let v : r .type < m = omega arith in
+        rw (ne-eqb (r .type) m n, lt-leb (suc m) (r .type) u, lt-leb m (r .type) v, select, playedFrom) h

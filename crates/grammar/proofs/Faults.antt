@@ -1,18 +1,16 @@
 -- The first fault of a line, test by test.
 use Prim.Native.Nat.{ℕ, _+_}
-use native.Mathlib.Omega.{arith}
 use mathlib.Core.Path.{_≡_, refl}
-use mathlib.Core.Bool.{Bool, true, false, _&&_}
+use mathlib.Core.Bool.{Bool, true, false}
 use mathlib.Core.Option.{Option, none, some}
 use mathlib.Core.List.{List, [], _∷_}
 use lib.Dec.{leb, ltb, eqb}
-use lib.ListN.{length, getD}
-use Rattle.orm.specs.Diagram.{isRoot, typeLine, predLine, roleLine, freqLine, endLine}
-use Rattle.orm.specs.Form.{_to_, unlimited, ranges, inRange, inRanges, Test, _unless_, firstOf, mostRoles, mostGroups, countOf, typeOf, roleOf, groupOf, headOf, valuesInOrder, typeTests, predTests, roleTests, endTests}
+use lib.ListN.{getD}
+use Rattle.orm.specs.Diagram.{LineKind, isRoot, typeLine, predLine, roleLine, freqLine, endLine}
+use Rattle.orm.specs.Form.{ranges, inRanges, Test, _unless_, firstOf, mostRoles, mostGroups, countOf, typeOf, roleOf, groupOf, headOf, valuesInOrder, typeTests, predTests, roleTests, endTests}
 use Rattle.grammar.specs.declared.Verdict.{Verdict}
 use Rattle.grammar.specs.Fault.{faultOf, unlessOf}
 use Rattle.grammar.specs.Step.{inOrder, faultIn, freqTests}
-use Rattle.grammar.proofs.Ranges.{last, role-unfolded, freq-unfolded}
 
 pub unless-not : (c : ℕ) {b : Bool} (rest : Option ℕ) → b ≡ false → some c ≡ unlessOf c b rest
 unless-not c rest e = rw e
@@ -27,19 +25,9 @@ no-more : firstOf [] ≡ none
 unfolding firstOf
 no-more = refl
 
-module _ (v : List ℕ) (l : length v ≡ 1) where
-  pub count-verdict : (low high : ℕ) {x : ℕ} {b : Bool} (r : Verdict)
-      → faultOf r ≡ unlessOf 2 b none → b ≡ inRange (low to high) x → x ≡ getD v 0 0
-      → faultOf r ≡ firstOf (2 unless inRanges (low to high ∷ []) v ∷ [])
-  count-verdict low high r e p q = cc (then 2 (inRanges (low to high ∷ []) v) [] no-more, last (low to high) v 0 (omega arith))
-
-  pub end-verdict : (roles : ℕ) {x : ℕ} {b : Bool} (r : Verdict)
-      → faultOf r ≡ unlessOf 6 b none → b ≡ eqb x roles → x ≡ getD v 0 0
-      → faultOf r ≡ faultIn endLine v (endTests roles (countOf v))
-  unfolding ranges endTests countOf inRange
-  end-verdict roles r e p q =
-      let any : inRanges (unlimited ∷ []) v ≡ true = last unlimited v 0 (omega arith) in
-      rw any (cc (then 2 true _ (then 6 (eqb (getD v 0 0) roles) [] no-more)))
+pub count-verdict : (k : LineKind) (v : List ℕ) {b : Bool} (r : Verdict)
+    → faultOf r ≡ unlessOf 2 b none → b ≡ inRanges (ranges k) v → faultOf r ≡ faultIn k v []
+count-verdict k v r e p = cc (then 2 (inRanges (ranges k) v) [] no-more)
 
 pub type-verdict : (own : ℕ) (v : List ℕ) {x₀ x₁ x₂ x₃ x₄ x₅ : ℕ} {b₂ b₃ b₄ b₅ : Bool} (r r₃ r₄ r₅ : Verdict)
     → faultOf r ≡ unlessOf 2 b₂ (faultOf r₃) → b₂ ≡ inRanges (ranges typeLine) v
@@ -67,33 +55,32 @@ pred-verdict roles groups v r r₃ r₄ r₅ h₀ h₁ h₂ h₃ h₄ h₅ h₆ 
     (then 2 (leb (groups + getD v 3 0) 48) _
     (then 4 (leb (getD v 0 0) (getD v 1 0)) [] no-more))))
 
-pub role-verdict : (types groups : ℕ) (v : List ℕ) {x₀ x₁ x₂ x₃ x₄ : ℕ} {b₂ b₃ b₄ t t₀ t₁ t₂ : Bool} (r r₃ r₄ : Verdict)
-    → length v ≡ 3
-    → faultOf r ≡ unlessOf 2 b₂ (faultOf r₃) → b₂ ≡ (t₀ && t) → t ≡ (t₁ && t₂)
-    → t₀ ≡ inRange (1 to 32) x₀ → x₀ ≡ getD v 0 0 → t₁ ≡ inRange (0 to 1) x₁ → x₁ ≡ getD v 1 0 → t₂ ≡ inRange (0 to 6) x₂ → x₂ ≡ getD v 2 0
-    → faultOf r₃ ≡ unlessOf 3 b₃ (faultOf r₄) → b₃ ≡ leb x₃ types → x₃ ≡ getD v 0 0
-    → faultOf r₄ ≡ unlessOf 3 b₄ none → b₄ ≡ leb x₄ groups → x₄ ≡ getD v 2 0
+pub role-verdict : (types groups : ℕ) (v : List ℕ) {x₀ x₂ : ℕ} {b₂ b₃ b₄ : Bool} (r r₃ r₄ : Verdict)
+    → faultOf r ≡ unlessOf 2 b₂ (faultOf r₃) → b₂ ≡ inRanges (ranges roleLine) v
+    → faultOf r₃ ≡ unlessOf 3 b₃ (faultOf r₄) → b₃ ≡ leb x₀ types → x₀ ≡ getD v 0 0
+    → faultOf r₄ ≡ unlessOf 3 b₄ none → b₄ ≡ leb x₂ groups → x₂ ≡ getD v 2 0
     → faultOf r ≡ faultIn roleLine v (roleTests types groups (roleOf v))
 unfolding roleTests
-role-verdict types groups v r r₃ r₄ l h₀ h₁ h₂ h₃ h₄ h₅ h₆ h₇ h₈ h₉ h₁₀ h₁₁ h₁₂ h₁₃ h₁₄ =
-    cc (
-      role-unfolded v l,
-      then 2 (inRanges (ranges roleLine) v) _
-          (then 3 (leb (getD v 0 0) types) _
-          (then 3 (leb (getD v 2 0) groups) [] no-more)),
-    )
+role-verdict types groups v r r₃ r₄ h₀ h₁ h₂ h₃ h₄ h₅ h₆ h₇ =
+    cc (then 2 (inRanges (ranges roleLine) v) _
+    (then 3 (leb (getD v 0 0) types) _
+    (then 3 (leb (getD v 2 0) groups) [] no-more)))
 
-pub freq-verdict : (used : Bool) (v : List ℕ) {x₀ x₁ x₂ x₃ : ℕ} {b₂ b₃ t₀ t₁ : Bool} (r r₃ r₄ : Verdict)
-    → length v ≡ 2
-    → faultOf r ≡ unlessOf 2 b₂ (faultOf r₃) → b₂ ≡ (t₀ && t₁)
-    → t₀ ≡ inRange (1 to 4096) x₀ → x₀ ≡ getD v 0 0 → t₁ ≡ inRange (1 to 4096) x₁ → x₁ ≡ getD v 1 0
-    → faultOf r₃ ≡ unlessOf 4 b₃ (faultOf r₄) → b₃ ≡ leb x₂ x₃ → x₂ ≡ getD v 0 0 → x₃ ≡ getD v 1 0
+pub freq-verdict : (used : Bool) (v : List ℕ) {x₀ x₁ : ℕ} {b₂ b₃ : Bool} (r r₃ r₄ : Verdict)
+    → faultOf r ≡ unlessOf 2 b₂ (faultOf r₃) → b₂ ≡ inRanges (ranges freqLine) v
+    → faultOf r₃ ≡ unlessOf 4 b₃ (faultOf r₄) → b₃ ≡ leb x₀ x₁ → x₀ ≡ getD v 0 0 → x₁ ≡ getD v 1 0
     → faultOf r₄ ≡ unlessOf 5 used none
     → faultOf r ≡ faultIn freqLine v (freqTests used (groupOf v))
-freq-verdict used v r r₃ r₄ l h₀ h₁ h₂ h₃ h₄ h₅ h₆ h₇ h₈ h₉ h₁₀ =
-    cc (
-      freq-unfolded v l,
-      then 2 (inRanges (ranges freqLine) v) _
-          (then 4 (leb (getD v 0 0) (getD v 1 0)) _
-          (then 5 used [] no-more)),
-    )
+freq-verdict used v r r₃ r₄ h₀ h₁ h₂ h₃ h₄ h₅ h₆ =
+    cc (then 2 (inRanges (ranges freqLine) v) _
+    (then 4 (leb (getD v 0 0) (getD v 1 0)) _
+    (then 5 used [] no-more)))
+
+pub end-verdict : (roles : ℕ) (v : List ℕ) {x : ℕ} {b₂ b₆ : Bool} (r r₆ : Verdict)
+    → faultOf r ≡ unlessOf 2 b₂ (faultOf r₆) → b₂ ≡ inRanges (ranges endLine) v
+    → faultOf r₆ ≡ unlessOf 6 b₆ none → b₆ ≡ eqb x roles → x ≡ getD v 0 0
+    → faultOf r ≡ faultIn endLine v (endTests roles (countOf v))
+unfolding endTests countOf
+end-verdict roles v r r₆ h₀ h₁ h₂ h₃ h₄ =
+    cc (then 2 (inRanges (ranges endLine) v) _
+    (then 6 (eqb (getD v 0 0) roles) [] no-more))

@@ -1,4 +1,5 @@
-pub mod Ranges
+pub mod Numbers
+pub mod Bounds
 pub mod Faults
 pub mod Named
 pub mod Order

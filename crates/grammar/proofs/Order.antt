@@ -1,13 +1,13 @@
 -- The order of the lines: the place with so many lines left, and where the line at each place leads.
-use Prim.Native.Nat.{ℕ, zero, suc, _+_, _-_, _≤_, _<_}
+use Prim.Native.Nat.{ℕ, zero, suc, _+_, _-_, _≤_}
 use mathlib.Core.Path.{_≡_, refl, ap, _∙_, subst}
 use mathlib.Core.Bool.{Bool, true, false}
 use mathlib.Core.Option.{Option}
-use mathlib.Core.List.{List, [], _∷_}
+use mathlib.Core.List.{List, []}
 use native.Mathlib.Omega.{arith}
 use lib.ListN.{length, getD}
-use Rattle.orm.specs.Diagram.{typeLine, predLine, roleLine, freqLine, endLine}
-use Rattle.orm.specs.Form.{_to_, ranges, inRanges, _unless_, firstOf, countOf, typeOf, roleOf, groupOf, headOf, typeTests, predTests, roleTests, named, groupTests, endTests}
+use Rattle.orm.specs.Diagram.{diagramLine, typesLine, typeLine, predsLine, predLine, roleLine, freqLine, endLine}
+use Rattle.orm.specs.Form.{countOf, typeOf, roleOf, groupOf, headOf, typeTests, predTests, roleTests, named, groupTests, endTests}
 use Rattle.reading.specs.Walk.{rolesAt}
 use Rattle.grammar.specs.declared.Fault.{Fault}
 use Rattle.grammar.specs.declared.Verdict.{Verdict}
@@ -149,15 +149,11 @@ module _ (s v : List ℕ) (r : Step) {o : Option ℕ} where
   unfolding stepAt
   leads p w f g = rw (← f, ← g) w
 
-  pub diagram-leads : stepOf r ≡ stepped o AtTypes → o ≡ firstOf (2 unless inRanges (1 to 1 ∷ []) v ∷ [])
-      → stepOf r ≡ stepAt AtDiagram s v
-  unfolding ranges
+  pub diagram-leads : stepOf r ≡ stepped o AtTypes → o ≡ faultIn diagramLine v [] → stepOf r ≡ stepAt AtDiagram s v
   diagram-leads w f = leads AtDiagram w f refl
 
   pub types-leads : {next : Place} {x : ℕ} → stepOf r ≡ stepped o next
-      → o ≡ firstOf (2 unless inRanges (1 to 32 ∷ []) v ∷ []) → next ≡ typesFrom x 1 x → x ≡ getD v 0 0
-      → stepOf r ≡ stepAt AtTypes s v
-  unfolding ranges
+      → o ≡ faultIn typesLine v [] → next ≡ typesFrom x 1 x → x ≡ getD v 0 0 → stepOf r ≡ stepAt AtTypes s v
   types-leads w f g q = leads AtTypes w f (rw q at g)
 
   pub type-leads : {next : Place} (t own left : ℕ) → stepOf r ≡ stepped o next
@@ -166,9 +162,8 @@ module _ (s v : List ℕ) (r : Step) {o : Option ℕ} where
   type-leads t own left w f g = leads (AtType t own left) w f g
 
   pub preds-leads : {next : Place} (t : ℕ) {x : ℕ} {c : Counts} → stepOf r ≡ stepped o next
-      → o ≡ firstOf (2 unless inRanges (1 to 32 ∷ []) v ∷ []) → next ≡ predsFrom c → c ≡ countsOf t x → x ≡ getD v 0 0
+      → o ≡ faultIn predsLine v [] → next ≡ predsFrom c → c ≡ countsOf t x → x ≡ getD v 0 0
       → stepOf r ≡ stepAt (AtPreds t) s v
-  unfolding ranges
   preds-leads t w f g h q = leads (AtPreds t) w f (rw (h, q) at g)
 
   pub role-leads : {next : Place} (b : Block) (left : ℕ) → stepOf r ≡ stepped o next

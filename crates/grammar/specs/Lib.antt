@@ -1,4 +1,5 @@
 pub mod Fault
+pub mod Bounds
 pub mod Place
 pub mod Step
 pub mod Room

@@ -19,6 +19,7 @@ use crate::verdicts::freq_verdict;
 use crate::verdicts::pred_verdict;
 use crate::verdicts::role_verdict;
 use crate::verdicts::type_verdict;
+use lexer::Kind;
 ghost use mathlib.Core.Path.{_≡_};
 ghost use mathlib.Core.List.{[]};
 ghost use Prim.Native.Nat.{_≤_};
@@ -41,7 +42,7 @@ pub fn diagram_line(line: &[u32]) -> Step
     requires { ⌜ length (now line) ≡ 1 ⌝ }
     ensures { λ r. ⌜ stepOf r ≡ stepAt AtDiagram [] (now (line .entry)) ⌝ }
 {
-    after_verdict(count_verdict(1, line, 1), Place::AtTypes)
+    after_verdict(count_verdict(Kind::DiagramLine, line), Place::AtTypes)
 }
 
 pub fn types_line(line: &[u32]) -> Step
@@ -49,7 +50,10 @@ pub fn types_line(line: &[u32]) -> Step
     ensures { λ r. ⌜ stepOf r ≡ stepAt AtTypes [] (now (line .entry)) ⌝ }
 {
     let count = number(line, 0);
-    after_verdict(count_verdict(1, line, 32), types_from(count, 1, count))
+    after_verdict(
+        count_verdict(Kind::TypesLine, line),
+        types_from(count, 1, count),
+    )
 }
 
 // The type with the number `own`.
@@ -66,7 +70,7 @@ pub fn preds_line(types: usize, line: &[u32]) -> Step
     ensures { λ r. ⌜ stepOf r ≡ stepAt (AtPreds types) [] (now (line .entry)) ⌝ }
 {
     let counts = counts_of(types, number(line, 0));
-    after_verdict(count_verdict(1, line, 32), preds_from(counts))
+    after_verdict(count_verdict(Kind::PredsLine, line), preds_from(counts))
 }
 
 // A `pred` line after `read` numbers.

@@ -4,6 +4,7 @@
 // far stand in a table, whether they came from a text or from a table.
 mod kinds;
 pub mod places;
+mod ranges;
 pub mod steps;
 mod tests;
 mod verdicts;

@@ -4,7 +4,7 @@ ghost use mathlib.Core.Bool.{_&&_};
 ghost use Prim.Native.Nat.{_≤_, _<_};
 ghost use lib.Dec.{leb, ltb, eqb};
 ghost use lib.ListN.{length, getD};
-ghost use Rattle.orm.specs.Form.{_to_, inRange, named};
+ghost use Rattle.orm.specs.Form.{named};
 ghost use Rattle.reading.specs.Walk.{rolesAt};
 ghost use Rattle.grammar.specs.Step.{inOrder};
 
@@ -55,16 +55,10 @@ pub fn equal(a: usize, b: usize) -> bool
     a == b
 }
 
-pub fn both(a: bool, b: bool) -> bool
+fn both(a: bool, b: bool) -> bool
     ensures { λ r. ⌜ r ≡ (a && b) ⌝ }
 {
     if a { b } else { false }
-}
-
-pub fn in_range(low: usize, v: usize, high: usize) -> bool
-    ensures { λ r. ⌜ r ≡ inRange (low to high) v ⌝ }
-{
-    both(at_most(low, v), at_most(v, high))
 }
 
 // A root has FIRST at most LAST, a subtype 0,0.

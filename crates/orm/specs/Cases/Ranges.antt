@@ -1,15 +1,57 @@
--- Worked examples of form: on each line what is out of range, before what else is wrong with it; and the largest diagrams.
-use Prim.Native.Nat.{ℕ}
+-- The ranges of all fields; and worked examples of form: on each line what is out of range, before what else is wrong with it; and
+-- the largest diagrams.
+use Prim.Native.Nat.{ℕ, suc}
 use Prim.Native.String.{String}
 use mathlib.Core.Path.{_≡_, refl}
 use mathlib.Core.List.{List, [], _∷_, _++_, map, flatten}
 use lib.ListN.{replicate}
 use Rattle.orm.specs.Text.{tableLine}
-use Rattle.orm.specs.Diagram.{Totals, totals}
+use Rattle.orm.specs.Diagram.{Totals, totals, LineKind, diagramLine, typesLine, typeLine, predsLine, predLine, roleLine, freqLine, endLine}
+use Rattle.orm.specs.Form.{Range, _to_, unlimited, ranges}
 use Rattle.orm.specs.Outcome.{Outcome, refused, accepted, _>>=_}
 use Rattle.orm.specs.Calls.{diagramIn, readCall}
 use Rattle.orm.specs.Cases.All.{everything}
 use Rattle.orm.specs.Cases.Marked.{text}
+
+-- A field with a range: its key, its number on the line, from 0, and its low and high bound
+data Field : Type 0 where
+  field : LineKind → ℕ → ℕ → ℕ → Field
+
+-- of a key, from this number on
+fieldsFrom : LineKind → ℕ → List Range → List Field
+fieldsFrom k i [] = []
+fieldsFrom k i (low to high ∷ rs) = field k i low high ∷ fieldsFrom k (suc i) rs
+fieldsFrom k i (unlimited ∷ rs) = fieldsFrom k (suc i) rs
+
+-- of all keys, in the order of the file
+rangedFields : List Field
+rangedFields = flatten (map (λ (k : LineKind). fieldsFrom k 0 (ranges k))
+    (diagramLine ∷ typesLine ∷ typeLine ∷ predsLine ∷ predLine ∷ roleLine ∷ freqLine ∷ endLine ∷ []))
+
+-- T, P 1..32; 'Ranges: the first line 1; MIN, MAX, FMIN, FMAX 1..4096; FIRST, LAST 0..999999; SUPER 0..32 (0: none); INDEP, MAND 0..1;
+-- ROLES 1..6; GROUPS 0..6; TYPE 1..32; GROUP 0..6'. There are no others: '`end` has no range of its own'
+ranged-fields : rangedFields ≡
+    field diagramLine 0 1 1  -- the first line
+    ∷ field typesLine 0 1 32  -- T
+    ∷ field typeLine 0 1 4096  -- MIN
+    ∷ field typeLine 1 1 4096  -- MAX
+    ∷ field typeLine 2 0 999999  -- FIRST
+    ∷ field typeLine 3 0 999999  -- LAST
+    ∷ field typeLine 4 0 32  -- SUPER
+    ∷ field typeLine 5 0 1  -- INDEP
+    ∷ field predsLine 0 1 32  -- P
+    ∷ field predLine 0 1 4096  -- MIN
+    ∷ field predLine 1 1 4096  -- MAX
+    ∷ field predLine 2 1 6  -- ROLES
+    ∷ field predLine 3 0 6  -- GROUPS
+    ∷ field roleLine 0 1 32  -- TYPE
+    ∷ field roleLine 1 0 1  -- MAND
+    ∷ field roleLine 2 0 6  -- GROUP
+    ∷ field freqLine 0 1 4096  -- FMIN
+    ∷ field freqLine 1 1 4096  -- FMAX
+    ∷ []
+unfolding everything rangedFields fieldsFrom
+ranged-fields = refl
 
 -- of the first of one type
 typeLines : List (Outcome (List ℕ))

@@ -1,6 +1,6 @@
 -- `grammar::tests::item` meets its contract.
 -- Assumes nothing.
-use Rattle.grammar.proofs.Ranges.{past-end}
+use Rattle.grammar.proofs.Numbers.{past-end}
 use borrow.Author.Needs.{needs}
 use Rattle.grammar.proofs.tests.item.Statement.{statement}
 use Rattle.grammar.proofs.tests.item.Tie as tie

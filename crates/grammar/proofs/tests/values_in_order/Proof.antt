@@ -1,6 +1,6 @@
 -- `grammar::tests::values_in_order` meets its contract.
 -- Assumes nothing.
-use Rattle.grammar.proofs.Ranges.{order-root, order-sub}
+use Rattle.grammar.proofs.Numbers.{order-root, order-sub}
 use borrow.Author.Needs.{needs}
 use Rattle.grammar.proofs.tests.values_in_order.Statement.{statement}
 use Rattle.grammar.proofs.tests.values_in_order.Tie as tie

@@ -11,5 +11,4 @@ count-verdict-spec =
     (tie.spec
     (λ c κs. search needs)
     (λ c κs. search needs)
-    (λ c κs. search needs)
     (λ c. search (needs, count-verdict)))

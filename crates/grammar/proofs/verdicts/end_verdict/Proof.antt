@@ -12,4 +12,6 @@ end-verdict-spec =
     (λ c κs. search needs)
     (λ c κs. search needs)
     (λ c κs. search needs)
+    (λ c κs. search needs)
+    (λ c κs. search needs)
     (λ c. search (needs, end-verdict)))

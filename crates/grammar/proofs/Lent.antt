@@ -5,13 +5,13 @@ use mathlib.Core.Path.{_≡_, sym, _∙_}
 use mathlib.Core.List.{List}
 use lib.ListN.{length, take, drop, length-drop}
 use lib.Seq.{length-take-le}
-use Rattle.grammar.specs.declared.Place.{Place}
+use Rattle.grammar.specs.declared.Awaited.{Awaited}
 use Rattle.grammar.specs.declared.Step.{Step}
-use Rattle.grammar.specs.Place.{fieldsAt}
+use Rattle.grammar.specs.Awaited.{fieldsAt}
 use Rattle.grammar.specs.Step.{stepOf, stepAt}
 use Rattle.grammar.specs.Room.{Room}
 
-module _ (p : Place) (xs : List ℕ) (start end : ℕ) (e : end ≡ start + fieldsAt p) (l : end ≤ length xs) where
+module _ (p : Awaited) (xs : List ℕ) (start end : ℕ) (e : end ≡ start + fieldsAt p) (l : end ≤ length xs) where
   front : length (take start xs) ≡ start
   front = length-take-le start xs (omega arith)
 

@@ -14,21 +14,21 @@ use Rattle.grammar.specs.declared.Verdict.{Verdict}
 use Rattle.grammar.specs.declared.Verdict.the-variants as verdict
 use Rattle.grammar.specs.declared.Counts.{Counts}
 use Rattle.grammar.specs.declared.Block.{Block}
-use Rattle.grammar.specs.declared.Place.{Place}
-use Rattle.grammar.specs.declared.Place.the-variants.{AtDiagram, AtTypes, AtType, AtPreds, AtPred, AtRole, AtFreq, AtEnd, Over}
+use Rattle.grammar.specs.declared.Awaited.{Awaited}
+use Rattle.grammar.specs.declared.Awaited.the-variants.{AtDiagram, AtTypes, AtType, AtPreds, AtPred, AtRole, AtFreq, AtEnd, Over}
 use Rattle.grammar.specs.declared.Step.{Step}
 use Rattle.grammar.specs.Fault.{numberOf, faultOf}
-use Rattle.grammar.specs.Place.{countsOf, blockOf, withLeft, typesFrom, predsLeft, predsFrom, groupsFrom, rolesFrom, kindAt, fieldsAt, isGoing, countsAt}
+use Rattle.grammar.specs.Awaited.{countsOf, blockOf, withLeft, typesFrom, predsLeft, predsFrom, groupsFrom, rolesFrom, kindAt, fieldsAt, isGoing, countsAt}
 use Rattle.grammar.specs.Step.{faultIn, freqTests, testsAt, nextAt, refusing, going, stepOf, stepped, stepAt, predStep}
-use Rattle.grammar.specs.Room.{Known, Room}
+use Rattle.grammar.specs.Room.{RoomAt, Room}
 
-pub fine-next : {v : Verdict} (p : Place) → v ≡ verdict.Fine → going p ≡ stepped (faultOf v) p
+pub fine-next : {v : Verdict} (p : Awaited) → v ≡ verdict.Fine → going p ≡ stepped (faultOf v) p
 fine-next p e = rw e
 
-pub faulty-next : {v : Verdict} (p : Place) (f : Fault) → v ≡ verdict.Faulty f → refusing (numberOf f) ≡ stepped (faultOf v) p
+pub faulty-next : {v : Verdict} (p : Awaited) (f : Fault) → v ≡ verdict.Faulty f → refusing (numberOf f) ≡ stepped (faultOf v) p
 faulty-next p f e = rw e
 
-pub counts-arm : {p q : Place} {r : Counts} → p ≡ q → r ≡ countsAt q → r ≡ countsAt p
+pub counts-arm : {p q : Awaited} {r : Counts} → p ≡ q → r ≡ countsAt q → r ≡ countsAt p
 counts-arm e w = rw e w
 
 -- ---- the number of lines left is 0, or one more than what is left then
@@ -51,14 +51,14 @@ pub preds-some : (c : Counts) → (c .left ≡ 0 → ⊥)
     → AtPred (record { types = c .types; preds = c .preds; left = c .left - 1; roles = c .roles; groups = c .groups }) ≡ predsFrom c
 preds-some c n = some-left c (c .left) n
 
-pub groups-none : (b : Block) (own left : ℕ) {r : Place} → left ≡ 0 → r ≡ predsFrom (b .counts) → r ≡ groupsFrom b own left
+pub groups-none : (b : Block) (own left : ℕ) {r : Awaited} → left ≡ 0 → r ≡ predsFrom (b .counts) → r ≡ groupsFrom b own left
 groups-none b own left e w = rw e w
 
 pub groups-some : (b : Block) (own left : ℕ) → (left ≡ 0 → ⊥) → AtFreq b own (left - 1) ≡ groupsFrom b own left
 groups-some b own zero n = absurd (n refl)
 groups-some b own (suc left) n = let p : suc left - 1 ≡ left = omega arith in ap (λ (k : ℕ). AtFreq b own k) p
 
-pub roles-none : (b : Block) (left : ℕ) {r : Place} → left ≡ 0 → r ≡ groupsFrom b 1 (b .groups) → r ≡ rolesFrom b left
+pub roles-none : (b : Block) (left : ℕ) {r : Awaited} → left ≡ 0 → r ≡ groupsFrom b 1 (b .groups) → r ≡ rolesFrom b left
 roles-none b left e w = rw e w
 
 pub roles-some : (b : Block) (left : ℕ) → (left ≡ 0 → ⊥) → AtRole b (left - 1) ≡ rolesFrom b left
@@ -76,7 +76,7 @@ pub block-is : (c : Counts) (first : ℕ) (v : List ℕ) {x y : ℕ} → x ≡ g
     }) (blockOf c first v)
 block-is c first v p q = rw (p, q)
 
-pub pred-step : (c : Counts) (read : ℕ) (v : List ℕ) (r : Step) {o : Option ℕ} {next : Place} {b : Block} → stepOf r ≡ stepped o next
+pub pred-step : (c : Counts) (read : ℕ) (v : List ℕ) (r : Step) {o : Option ℕ} {next : Awaited} {b : Block} → stepOf r ≡ stepped o next
     → o ≡ faultIn predLine v (predTests (c .roles) (c .groups) (headOf v))
     → next ≡ rolesFrom b (b .roles) → b ≡ blockOf c (read + length v) v → stepOf r ≡ predStep c read v
 pred-step c read v r {o} {next} {b} e p q w =
@@ -85,7 +85,7 @@ pred-step c read v r {o} {next} {b} e p q w =
 -- ---- a line at a place
 
 -- the number of its values
-module _ {p : Place} (v : List ℕ) (l : length v ≡ fieldsAt p) where
+module _ {p : Awaited} (v : List ℕ) (l : length v ≡ fieldsAt p) where
   pub diagram-sized : p ≡ AtDiagram → length v ≡ 1
   diagram-sized e = rw e at l
 
@@ -111,9 +111,9 @@ module _ {p : Place} (v : List ℕ) (l : length v ≡ fieldsAt p) where
   end-sized c e = rw e at l
 
 -- the numbers in the place are small
-module _ {p : Place} {read : ℕ} (w : Room p read) where
-  known : (q : Place) → p ≡ q → Known q read
-  known q e = subst (λ (q : Place). Known q read) e (w .known)
+module _ {p : Awaited} {read : ℕ} (w : Room p read) where
+  known : (q : Awaited) → p ≡ q → RoomAt q read
+  known q e = subst (λ (q : Awaited). RoomAt q read) e (w .known)
 
   pub type-own : {t left : ℕ} (own : ℕ) → p ≡ AtType t own left → own ≤ 32
   type-own own e = let k = known _ e in omega arith
@@ -144,7 +144,7 @@ roles-small b h = omega (arith, h .1)
 
 -- what a line of each kind leads to
 module _ (s v : List ℕ) (r : Step) {o : Option ℕ} where
-  leads : (p : Place) {next : Place} → stepOf r ≡ stepped o next
+  leads : (p : Awaited) {next : Awaited} → stepOf r ≡ stepped o next
       → o ≡ faultIn (kindAt p) v (testsAt p s v) → next ≡ nextAt p s v → stepOf r ≡ stepAt p s v
   unfolding stepAt
   leads p w f g = rw (← f, ← g) w
@@ -152,26 +152,26 @@ module _ (s v : List ℕ) (r : Step) {o : Option ℕ} where
   pub diagram-leads : stepOf r ≡ stepped o AtTypes → o ≡ faultIn diagramLine v [] → stepOf r ≡ stepAt AtDiagram s v
   diagram-leads w f = leads AtDiagram w f refl
 
-  pub types-leads : {next : Place} {x : ℕ} → stepOf r ≡ stepped o next
+  pub types-leads : {next : Awaited} {x : ℕ} → stepOf r ≡ stepped o next
       → o ≡ faultIn typesLine v [] → next ≡ typesFrom x 1 x → x ≡ getD v 0 0 → stepOf r ≡ stepAt AtTypes s v
   types-leads w f g q = leads AtTypes w f (rw q at g)
 
-  pub type-leads : {next : Place} (t own left : ℕ) → stepOf r ≡ stepped o next
+  pub type-leads : {next : Awaited} (t own left : ℕ) → stepOf r ≡ stepped o next
       → o ≡ faultIn typeLine v (typeTests own (typeOf v)) → next ≡ typesFrom t (own + 1) left
       → stepOf r ≡ stepAt (AtType t own left) s v
   type-leads t own left w f g = leads (AtType t own left) w f g
 
-  pub preds-leads : {next : Place} (t : ℕ) {x : ℕ} {c : Counts} → stepOf r ≡ stepped o next
+  pub preds-leads : {next : Awaited} (t : ℕ) {x : ℕ} {c : Counts} → stepOf r ≡ stepped o next
       → o ≡ faultIn predsLine v [] → next ≡ predsFrom c → c ≡ countsOf t x → x ≡ getD v 0 0
       → stepOf r ≡ stepAt (AtPreds t) s v
   preds-leads t w f g h q = leads (AtPreds t) w f (rw (h, q) at g)
 
-  pub role-leads : {next : Place} (b : Block) (left : ℕ) → stepOf r ≡ stepped o next
+  pub role-leads : {next : Awaited} (b : Block) (left : ℕ) → stepOf r ≡ stepped o next
       → o ≡ faultIn roleLine v (roleTests (b .counts .types) (b .groups) (roleOf v)) → next ≡ rolesFrom b left
       → stepOf r ≡ stepAt (AtRole b left) s v
   role-leads b left w f g = leads (AtRole b left) w f g
 
-  pub freq-leads : {next : Place} {used : Bool} (b : Block) (own left : ℕ) → stepOf r ≡ stepped o next
+  pub freq-leads : {next : Awaited} {used : Bool} (b : Block) (own left : ℕ) → stepOf r ≡ stepped o next
       → o ≡ faultIn freqLine v (freqTests used (groupOf v))
       → used ≡ named own (rolesAt s (b .first) (b .roles)) → next ≡ groupsFrom b (own + 1) left
       → stepOf r ≡ stepAt (AtFreq b own left) s v
@@ -183,7 +183,7 @@ module _ (s v : List ℕ) (r : Step) {o : Option ℕ} where
   end-leads c w f = leads (AtEnd c) w f refl
 
 -- the same of a place that is known to be the one before such a line
-module _ {p : Place} (s v : List ℕ) (r : Step) where
+module _ {p : Awaited} (s v : List ℕ) (r : Step) where
   pub diagram-arm : p ≡ AtDiagram → stepOf r ≡ stepAt AtDiagram [] v → stepOf r ≡ stepAt p s v
   unfolding stepAt
   diagram-arm e w = rw e w
@@ -217,5 +217,5 @@ module _ {p : Place} (s v : List ℕ) (r : Step) where
   unfolding stepAt
   end-arm c e w = rw e w
 
-pub over-never : {p : Place} (s v : List ℕ) (c : Counts) → p ≡ Over c → isGoing p ≡ true → going (Over c) ≡ stepAt p s v
+pub over-never : {p : Awaited} (s v : List ℕ) (c : Counts) → p ≡ Over c → isGoing p ≡ true → going (Over c) ≡ stepAt p s v
 over-never s v c e g = let z : false ≡ true = rw e at g in cc

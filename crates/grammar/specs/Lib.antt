@@ -1,6 +1,6 @@
 pub mod Fault
 pub mod Bounds
-pub mod Place
+pub mod Awaited
 pub mod Step
 pub mod Room
 pub mod Walk

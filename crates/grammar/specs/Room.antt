@@ -2,8 +2,8 @@
 use Prim.Native.Nat.{ℕ, suc, _+_, _*_, _≤_}
 use Rattle.grammar.specs.declared.Counts.{Counts}
 use Rattle.grammar.specs.declared.Block.{Block}
-use Rattle.grammar.specs.declared.Place.{Place}
-use Rattle.grammar.specs.declared.Place.the-variants.{AtDiagram, AtTypes, AtType, AtPreds, AtPred, AtRole, AtFreq, AtEnd, Over}
+use Rattle.grammar.specs.declared.Awaited.{Awaited}
+use Rattle.grammar.specs.declared.Awaited.the-variants.{AtDiagram, AtTypes, AtType, AtPreds, AtPred, AtRole, AtFreq, AtEnd, Over}
 
 -- `read` numbers, and `more` of this predicate; then `left` predicates, with as many roles and groups as may still come
 pub record Within (c : Counts) (read more : ℕ) : Type 0 where
@@ -18,16 +18,16 @@ pub record Own (b : Block) : Type 0 where
   pub groups : b .groups ≤ 6
 
 -- What is known at a place after `read` numbers
-abbrev pub Known : Place → ℕ → Type 0
-Known AtDiagram read = read ≤ 0
-Known AtTypes read = read ≤ 1
-Known (AtType types own left) read = (read + 6 * left ≤ 188) × (own + left ≤ 32)
-Known (AtPreds types) read = read ≤ 194
-Known (AtPred c) read = Within c read 4
-Known (AtRole b left) read = Within (b .counts) read (3 * suc left + 2 * b .groups) × Own b
-Known (AtFreq b own left) read = Within (b .counts) read (2 * suc left) × Own b × (own + left ≤ 6)
-Known (AtEnd c) read = read ≤ 707
-Known (Over c) read = read ≤ 708
+abbrev pub RoomAt : Awaited → ℕ → Type 0
+RoomAt AtDiagram read = read ≤ 0
+RoomAt AtTypes read = read ≤ 1
+RoomAt (AtType types own left) read = (read + 6 * left ≤ 188) × (own + left ≤ 32)
+RoomAt (AtPreds types) read = read ≤ 194
+RoomAt (AtPred c) read = Within c read 4
+RoomAt (AtRole b left) read = Within (b .counts) read (3 * suc left + 2 * b .groups) × Own b
+RoomAt (AtFreq b own left) read = Within (b .counts) read (2 * suc left) × Own b × (own + left ≤ 6)
+RoomAt (AtEnd c) read = read ≤ 707
+RoomAt (Over c) read = read ≤ 708
 
-pub record Room (p : Place) (read : ℕ) : Type 0 where
-  pub known : Known p read
+pub record Room (p : Awaited) (read : ℕ) : Type 0 where
+  pub known : RoomAt p read

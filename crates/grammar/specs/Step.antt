@@ -9,12 +9,12 @@ use Rattle.orm.specs.Diagram.{Frequency, LineKind, predLine}
 use Rattle.orm.specs.Form.{Test, _unless_, firstOf, ranges, inRanges, countOf, typeOf, roleOf, groupOf, headOf, typeTests, predTests, roleTests, groupTests, endTests}
 use Rattle.reading.specs.Walk.{rolesAt}
 use Rattle.grammar.specs.declared.Counts.{Counts}
-use Rattle.grammar.specs.declared.Place.{Place}
-use Rattle.grammar.specs.declared.Place.the-variants.{AtDiagram, AtTypes, AtType, AtPreds, AtPred, AtRole, AtFreq, AtEnd, Over}
+use Rattle.grammar.specs.declared.Awaited.{Awaited}
+use Rattle.grammar.specs.declared.Awaited.the-variants.{AtDiagram, AtTypes, AtType, AtPreds, AtPred, AtRole, AtFreq, AtEnd, Over}
 use Rattle.grammar.specs.declared.Step.{Step}
 use Rattle.grammar.specs.declared.Step.the-variants.{Refused, Next}
 use Rattle.grammar.specs.Fault.{numberOf}
-use Rattle.grammar.specs.Place.{countsOf, blockOf, typesFrom, predsFrom, groupsFrom, rolesFrom, kindAt}
+use Rattle.grammar.specs.Awaited.{countsOf, blockOf, typesFrom, predsFrom, groupsFrom, rolesFrom, kindAt}
 
 -- The order of a type's values, as of FIRST, LAST and SUPER
 abbrev pub inOrder : ℕ → ℕ → ℕ → Bool
@@ -29,7 +29,7 @@ abbrev pub freqTests : Bool → Frequency → List Test
 freqTests used f = 4 unless leb (f .fmin) (f .fmax) ∷ 5 unless used ∷ []
 
 -- The tests of a line with the numbers `v`, after lines with the numbers `s`: those that follow its ranges
-abbrev pub testsAt : Place → List ℕ → List ℕ → List Test
+abbrev pub testsAt : Awaited → List ℕ → List ℕ → List Test
 testsAt AtDiagram s v = []
 testsAt AtTypes s v = []
 testsAt (AtType types own left) s v = typeTests own (typeOf v)
@@ -40,7 +40,7 @@ testsAt (AtFreq b own left) s v = groupTests (rolesAt s (b .first) (b .roles)) o
 testsAt (AtEnd c) s v = endTests (c .roles) (countOf v)
 testsAt (Over c) s v = []
 
-abbrev pub nextAt : Place → List ℕ → List ℕ → Place
+abbrev pub nextAt : Awaited → List ℕ → List ℕ → Awaited
 nextAt AtDiagram s v = AtTypes
 nextAt AtTypes s v = typesFrom (getD v 0 0) 1 (getD v 0 0)
 nextAt (AtType types own left) s v = typesFrom types (own + 1) left
@@ -52,24 +52,24 @@ nextAt (AtEnd c) s v = Over c
 nextAt (Over c) s v = Over c
 
 -- What a line leads to: a refusal with this number, or the next place
-pub data Stepped : Type 0 where
-  refusing : ℕ → Stepped
-  going : Place → Stepped
+pub data Consequence : Type 0 where
+  refusing : ℕ → Consequence
+  going : Awaited → Consequence
 
-abbrev pub stepOf : Step → Stepped
+abbrev pub stepOf : Step → Consequence
 stepOf (Refused f) = refusing (numberOf f)
 stepOf (Next p) = going p
 
-abbrev pub stepped : Option ℕ → Place → Stepped
+abbrev pub stepped : Option ℕ → Awaited → Consequence
 stepped none p = going p
 stepped (some c) p = refusing c
 
 -- Of the line with the numbers `v`, after lines with the numbers `s`
-unfoldable pub stepAt : Place → List ℕ → List ℕ → Stepped
+unfoldable pub stepAt : Awaited → List ℕ → List ℕ → Consequence
 stepAt p s v = stepped (faultIn (kindAt p) v (testsAt p s v)) (nextAt p s v)
 
 -- Of the `pred` line with the numbers `v`, after `read` numbers
-abbrev pub predStep : Counts → ℕ → List ℕ → Stepped
+abbrev pub predStep : Counts → ℕ → List ℕ → Consequence
 predStep c read v =
     stepped (faultIn predLine v (predTests (c .roles) (c .groups) (headOf v)))
     (rolesFrom (blockOf c (read + length v) v) (getD v 2 0))

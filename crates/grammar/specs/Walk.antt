@@ -6,9 +6,9 @@ use Rattle.orm.specs.Reader.{Cut}
 use Rattle.reading.specs.Walk.{Walk, nothingLeft, fromEnd, groupsThen, rolesThen, fromPreds, fromPredsLine, fromTypes, fromTypesLine, fromStart}
 use Rattle.grammar.specs.declared.Counts.{Counts}
 use Rattle.grammar.specs.declared.Block.{Block}
-use Rattle.grammar.specs.declared.Place.{Place}
-use Rattle.grammar.specs.declared.Place.the-variants.{AtDiagram, AtTypes, AtType, AtPreds, AtPred, AtRole, AtFreq, AtEnd, Over}
-use Rattle.grammar.specs.Place.{totalsOf}
+use Rattle.grammar.specs.declared.Awaited.{Awaited}
+use Rattle.grammar.specs.declared.Awaited.the-variants.{AtDiagram, AtTypes, AtType, AtPreds, AtPred, AtRole, AtFreq, AtEnd, Over}
+use Rattle.grammar.specs.Awaited.{totalsOf}
 
 -- `next` cuts off the next line
 module _ (next : LineKind → List ℕ → Cut) where
@@ -23,7 +23,7 @@ module _ (next : LineKind → List ℕ → Cut) where
   rolesOf b own left = rolesThen next (b .counts .types) (b .first) (b .roles) (b .groups) own left (others (b .counts))
 
   -- From a place on
-  unfoldable pub from : Place → Walk
+  unfoldable pub from : Awaited → Walk
   from AtDiagram acc = fromStart next acc
   from AtTypes acc = fromTypesLine next acc
   from (AtType types own left) acc = fromTypes next types own (suc left) acc

@@ -1,8 +1,8 @@
 // Where a line of each kind leads, or its first fault. Only a `freq` line looks at the numbers before it, for the roles that name
 // its group; of the others the contract speaks of none.
+use crate::Awaited;
 use crate::Block;
 use crate::Counts;
-use crate::Place;
 use crate::Step;
 use crate::Verdict;
 use crate::places::block_of;
@@ -24,12 +24,12 @@ ghost use mathlib.Core.Path.{_≡_};
 ghost use mathlib.Core.List.{[]};
 ghost use Prim.Native.Nat.{_≤_};
 ghost use lib.ListN.{length};
-ghost use Rattle.grammar.specs.declared.Place.the-variants.{AtDiagram, AtTypes, AtType, AtPreds, AtRole, AtFreq, AtEnd};
+ghost use Rattle.grammar.specs.declared.Awaited.the-variants.{AtDiagram, AtTypes, AtType, AtPreds, AtRole, AtFreq, AtEnd};
 ghost use Rattle.grammar.specs.Fault.{faultOf};
 ghost use Rattle.grammar.specs.Step.{stepOf, stepped, stepAt, predStep};
 
 // The fault, or the next place.
-fn after_verdict(verdict: Verdict, next: Place) -> Step
+fn after_verdict(verdict: Verdict, next: Awaited) -> Step
     ensures { λ r. ⌜ stepOf r ≡ stepped (faultOf verdict) next ⌝ }
 {
     match verdict {
@@ -42,7 +42,7 @@ pub fn diagram_line(line: &[u32]) -> Step
     requires { ⌜ length (now line) ≡ 1 ⌝ }
     ensures { λ r. ⌜ stepOf r ≡ stepAt AtDiagram [] (now (line .entry)) ⌝ }
 {
-    after_verdict(count_verdict(Kind::DiagramLine, line), Place::AtTypes)
+    after_verdict(count_verdict(Kind::DiagramLine, line), Awaited::AtTypes)
 }
 
 pub fn types_line(line: &[u32]) -> Step
@@ -112,5 +112,5 @@ pub fn end_line(counts: Counts, line: &[u32]) -> Step
     requires { ⌜ length (now line) ≡ 1 ⌝ }
     ensures { λ r. ⌜ stepOf r ≡ stepAt (AtEnd counts) [] (now (line .entry)) ⌝ }
 {
-    after_verdict(end_verdict(counts.roles, line), Place::Over { counts })
+    after_verdict(end_verdict(counts.roles, line), Awaited::Over { counts })
 }

@@ -1,6 +1,6 @@
 // The grammar of a diagram: which line comes next, what it must hold, and where it leads.
 //
-// A `Place` says which line comes next and what is known so far. The numbers of the lines read so
+// `Awaited` says which line comes next and what is known so far. The numbers of the lines read so
 // far stand in a table, whether they came from a text or from a table.
 mod kinds;
 pub mod places;
@@ -68,7 +68,7 @@ pub struct Block {
 
 // The line that comes next. `own` is its number among those of its kind, `left` says how many of
 // its kind follow it.
-pub enum Place {
+pub enum Awaited {
     AtDiagram,
     AtTypes,
     AtType {
@@ -102,5 +102,5 @@ pub enum Place {
 // What a line leads to.
 pub enum Step {
     Refused(Fault),
-    Next(Place),
+    Next(Awaited),
 }

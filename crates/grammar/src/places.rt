@@ -1,99 +1,99 @@
 // The places: which line comes next, and the place with so many lines of a kind left.
+use crate::Awaited;
 use crate::Block;
 use crate::Counts;
-use crate::Place;
 use crate::tests::number;
 use lexer::Kind;
 ghost use mathlib.Core.Path.{_≡_};
 ghost use Prim.Native.Nat.{_≤_};
 ghost use lib.ListN.{length};
 ghost use Rattle.lexer.specs.Cuts.{kindOf, fieldsOf};
-ghost use Rattle.grammar.specs.Place.{typesFrom, predsFrom, groupsFrom, rolesFrom, countsOf, blockOf, kindAt, fieldsAt, isGoing, countsAt};
+ghost use Rattle.grammar.specs.Awaited.{typesFrom, predsFrom, groupsFrom, rolesFrom, countsOf, blockOf, kindAt, fieldsAt, isGoing, countsAt};
 
 // The kind of the line that comes next; behind the last line it does not matter.
-pub fn kind_at(place: Place) -> Kind
+pub fn kind_at(place: Awaited) -> Kind
     ensures { λ r. ⌜ kindOf r ≡ kindAt place ⌝ }
     ensures { λ r. ⌜ fieldsOf r ≡ fieldsAt place ⌝ }
 {
     match place {
-        Place::AtDiagram => Kind::DiagramLine,
-        Place::AtTypes => Kind::TypesLine,
-        Place::AtType {
+        Awaited::AtDiagram => Kind::DiagramLine,
+        Awaited::AtTypes => Kind::TypesLine,
+        Awaited::AtType {
             types: _,
             own: _,
             left: _,
         } => Kind::TypeLine,
-        Place::AtPreds { types: _ } => Kind::PredsLine,
-        Place::AtPred { counts: _ } => Kind::PredLine,
-        Place::AtRole { block: _, left: _ } => Kind::RoleLine,
-        Place::AtFreq {
+        Awaited::AtPreds { types: _ } => Kind::PredsLine,
+        Awaited::AtPred { counts: _ } => Kind::PredLine,
+        Awaited::AtRole { block: _, left: _ } => Kind::RoleLine,
+        Awaited::AtFreq {
             block: _,
             own: _,
             left: _,
         } => Kind::FreqLine,
-        Place::AtEnd { counts: _ } => Kind::EndLine,
-        Place::Over { counts: _ } => Kind::EndLine,
+        Awaited::AtEnd { counts: _ } => Kind::EndLine,
+        Awaited::Over { counts: _ } => Kind::EndLine,
     }
 }
 
 // Whether a line is still to come.
-pub fn is_going(place: Place) -> bool
+pub fn is_going(place: Awaited) -> bool
     ensures { λ r. ⌜ r ≡ isGoing place ⌝ }
 {
     match place {
-        Place::AtDiagram => true,
-        Place::AtTypes => true,
-        Place::AtType {
+        Awaited::AtDiagram => true,
+        Awaited::AtTypes => true,
+        Awaited::AtType {
             types: _,
             own: _,
             left: _,
         } => true,
-        Place::AtPreds { types: _ } => true,
-        Place::AtPred { counts: _ } => true,
-        Place::AtRole { block: _, left: _ } => true,
-        Place::AtFreq {
+        Awaited::AtPreds { types: _ } => true,
+        Awaited::AtPred { counts: _ } => true,
+        Awaited::AtRole { block: _, left: _ } => true,
+        Awaited::AtFreq {
             block: _,
             own: _,
             left: _,
         } => true,
-        Place::AtEnd { counts: _ } => true,
-        Place::Over { counts: _ } => false,
+        Awaited::AtEnd { counts: _ } => true,
+        Awaited::Over { counts: _ } => false,
     }
 }
 
 // The counts at the end; before it none.
-pub fn counts_at(place: Place) -> Counts
+pub fn counts_at(place: Awaited) -> Counts
     ensures { λ r. ⌜ r ≡ countsAt place ⌝ }
 {
     match place {
-        Place::AtDiagram => counts_of(0, 0),
-        Place::AtTypes => counts_of(0, 0),
-        Place::AtType {
+        Awaited::AtDiagram => counts_of(0, 0),
+        Awaited::AtTypes => counts_of(0, 0),
+        Awaited::AtType {
             types: _,
             own: _,
             left: _,
         } => counts_of(0, 0),
-        Place::AtPreds { types: _ } => counts_of(0, 0),
-        Place::AtPred { counts: _ } => counts_of(0, 0),
-        Place::AtRole { block: _, left: _ } => counts_of(0, 0),
-        Place::AtFreq {
+        Awaited::AtPreds { types: _ } => counts_of(0, 0),
+        Awaited::AtPred { counts: _ } => counts_of(0, 0),
+        Awaited::AtRole { block: _, left: _ } => counts_of(0, 0),
+        Awaited::AtFreq {
             block: _,
             own: _,
             left: _,
         } => counts_of(0, 0),
-        Place::AtEnd { counts: _ } => counts_of(0, 0),
-        Place::Over { counts } => counts,
+        Awaited::AtEnd { counts: _ } => counts_of(0, 0),
+        Awaited::Over { counts } => counts,
     }
 }
 
 // The place with `left` more type lines, the first of which is number `own`.
-pub fn types_from(types: usize, own: usize, left: usize) -> Place
+pub fn types_from(types: usize, own: usize, left: usize) -> Awaited
     ensures { λ r. ⌜ r ≡ typesFrom types own left ⌝ }
 {
     if left == 0 {
-        Place::AtPreds { types }
+        Awaited::AtPreds { types }
     } else {
-        Place::AtType {
+        Awaited::AtType {
             types,
             own,
             left: left - 1,
@@ -102,14 +102,14 @@ pub fn types_from(types: usize, own: usize, left: usize) -> Place
 }
 
 // The place where as many predicates are still to come as the counts say.
-pub fn preds_from(counts: Counts) -> Place
+pub fn preds_from(counts: Counts) -> Awaited
     ensures { λ r. ⌜ r ≡ predsFrom counts ⌝ }
 {
     let left = counts.left;
     if left == 0 {
-        Place::AtEnd { counts }
+        Awaited::AtEnd { counts }
     } else {
-        Place::AtPred {
+        Awaited::AtPred {
             counts: Counts {
                 types: counts.types,
                 preds: counts.preds,
@@ -122,14 +122,14 @@ pub fn preds_from(counts: Counts) -> Place
 }
 
 // The place with `left` more freq lines, the first of which is number `own`.
-pub fn groups_from(block: Block, own: usize, left: usize) -> Place
+pub fn groups_from(block: Block, own: usize, left: usize) -> Awaited
     ensures { λ r. ⌜ r ≡ groupsFrom block own left ⌝ }
 {
     if left == 0 {
         let counts = block.counts;
         preds_from(counts)
     } else {
-        Place::AtFreq {
+        Awaited::AtFreq {
             block,
             own,
             left: left - 1,
@@ -138,13 +138,13 @@ pub fn groups_from(block: Block, own: usize, left: usize) -> Place
 }
 
 // The place with `left` more role lines.
-pub fn roles_from(block: Block, left: usize) -> Place
+pub fn roles_from(block: Block, left: usize) -> Awaited
     ensures { λ r. ⌜ r ≡ rolesFrom block left ⌝ }
 {
     if left == 0 {
         groups_from(block, 1, block.groups)
     } else {
-        Place::AtRole {
+        Awaited::AtRole {
             block,
             left: left - 1,
         }

@@ -1,6 +1,6 @@
 // Where the line at a place leads, or its first fault. The walk over a table and the walk over a text each have a choice by the
 // place of their own: with one caller it is compiled into the walk's loop, and the place stays in registers.
-use crate::Place;
+use crate::Awaited;
 use crate::Step;
 use crate::kinds::diagram_line;
 use crate::kinds::end_line;
@@ -14,32 +14,32 @@ ghost use mathlib.Core.Path.{_≡_};
 ghost use mathlib.Core.Bool.{true};
 ghost use Prim.Native.Nat.{_+_, _≤_};
 ghost use lib.ListN.{length, take, drop};
-ghost use Rattle.grammar.specs.Place.{isGoing, fieldsAt};
+ghost use Rattle.grammar.specs.Awaited.{isGoing, fieldsAt};
 ghost use Rattle.grammar.specs.Step.{stepOf, stepAt};
 ghost use Rattle.grammar.specs.Room.{Room};
 
 // What the line with these numbers leads to, after lines with the numbers `before`.
-fn check_line(place: Place, before: &[u32], line: &[u32]) -> Step
+fn check_line(place: Awaited, before: &[u32], line: &[u32]) -> Step
     requires { ⌜ Room place (length (now before)) ⌝ }
     requires { ⌜ isGoing place ≡ true ⌝ }
     requires { ⌜ length (now line) ≡ fieldsAt place ⌝ }
     ensures { λ r. ⌜ stepOf r ≡ stepAt place (now (before .entry)) (now (line .entry)) ⌝ }
 {
     match place {
-        Place::AtDiagram => diagram_line(line),
-        Place::AtTypes => types_line(line),
-        Place::AtType { types, own, left } => type_line(types, own, left, line),
-        Place::AtPreds { types } => preds_line(types, line),
-        Place::AtPred { counts } => pred_line(counts, before.len(), line),
-        Place::AtRole { block, left } => role_line(block, left, line),
-        Place::AtFreq { block, own, left } => freq_line(block, own, left, before, line),
-        Place::AtEnd { counts } => end_line(counts, line),
-        Place::Over { counts } => Step::Next(Place::Over { counts }),
+        Awaited::AtDiagram => diagram_line(line),
+        Awaited::AtTypes => types_line(line),
+        Awaited::AtType { types, own, left } => type_line(types, own, left, line),
+        Awaited::AtPreds { types } => preds_line(types, line),
+        Awaited::AtPred { counts } => pred_line(counts, before.len(), line),
+        Awaited::AtRole { block, left } => role_line(block, left, line),
+        Awaited::AtFreq { block, own, left } => freq_line(block, own, left, before, line),
+        Awaited::AtEnd { counts } => end_line(counts, line),
+        Awaited::Over { counts } => Step::Next(Awaited::Over { counts }),
     }
 }
 
 // The line whose numbers stand at `start` to `end` in the table.
-pub fn check_at(place: Place, table: &[u32], start: usize, end: usize) -> Step
+pub fn check_at(place: Awaited, table: &[u32], start: usize, end: usize) -> Step
     requires { ⌜ Room place start ⌝ }
     requires { ⌜ isGoing place ≡ true ⌝ }
     requires { ⌜ end ≡ start + fieldsAt place ⌝ }
@@ -50,27 +50,27 @@ pub fn check_at(place: Place, table: &[u32], start: usize, end: usize) -> Step
 }
 
 // What the line with these numbers, which is cut off a text, leads to, after lines with the numbers `before`.
-fn check_cut_line(place: Place, before: &[u32], line: &[u32]) -> Step
+fn check_cut_line(place: Awaited, before: &[u32], line: &[u32]) -> Step
     requires { ⌜ Room place (length (now before)) ⌝ }
     requires { ⌜ isGoing place ≡ true ⌝ }
     requires { ⌜ length (now line) ≡ fieldsAt place ⌝ }
     ensures { λ r. ⌜ stepOf r ≡ stepAt place (now (before .entry)) (now (line .entry)) ⌝ }
 {
     match place {
-        Place::AtDiagram => diagram_line(line),
-        Place::AtTypes => types_line(line),
-        Place::AtType { types, own, left } => type_line(types, own, left, line),
-        Place::AtPreds { types } => preds_line(types, line),
-        Place::AtPred { counts } => pred_line(counts, before.len(), line),
-        Place::AtRole { block, left } => role_line(block, left, line),
-        Place::AtFreq { block, own, left } => freq_line(block, own, left, before, line),
-        Place::AtEnd { counts } => end_line(counts, line),
-        Place::Over { counts } => Step::Next(Place::Over { counts }),
+        Awaited::AtDiagram => diagram_line(line),
+        Awaited::AtTypes => types_line(line),
+        Awaited::AtType { types, own, left } => type_line(types, own, left, line),
+        Awaited::AtPreds { types } => preds_line(types, line),
+        Awaited::AtPred { counts } => pred_line(counts, before.len(), line),
+        Awaited::AtRole { block, left } => role_line(block, left, line),
+        Awaited::AtFreq { block, own, left } => freq_line(block, own, left, before, line),
+        Awaited::AtEnd { counts } => end_line(counts, line),
+        Awaited::Over { counts } => Step::Next(Awaited::Over { counts }),
     }
 }
 
 // The line of a text whose numbers went to `start` to `end` in the table.
-pub fn check_cut(place: Place, table: &[u32], start: usize, end: usize) -> Step
+pub fn check_cut(place: Awaited, table: &[u32], start: usize, end: usize) -> Step
     requires { ⌜ Room place start ⌝ }
     requires { ⌜ isGoing place ≡ true ⌝ }
     requires { ⌜ end ≡ start + fieldsAt place ⌝ }

@@ -16,10 +16,10 @@ use Rattle.reading.specs.Walk.{Summary, lineThen, nothingLeft}
 use Rattle.reading.specs.Walks.Diagrams.{told, walk-reads}
 use Rattle.grammar.specs.declared.Fault.{Fault}
 use Rattle.grammar.specs.declared.Counts.{Counts}
-use Rattle.grammar.specs.declared.Place.{Place}
-use Rattle.grammar.specs.declared.Place.the-variants.{AtDiagram, AtTypes, AtType, AtPreds, AtPred, AtRole, AtFreq, AtEnd, Over}
+use Rattle.grammar.specs.declared.Awaited.{Awaited}
+use Rattle.grammar.specs.declared.Awaited.the-variants.{AtDiagram, AtTypes, AtType, AtPreds, AtPred, AtRole, AtFreq, AtEnd, Over}
 use Rattle.grammar.specs.Fault.{numberOf}
-use Rattle.grammar.specs.Place.{kindAt, isGoing, countsAt, totalsOf}
+use Rattle.grammar.specs.Awaited.{kindAt, isGoing, countsAt, totalsOf}
 use Rattle.grammar.specs.Step.{testsAt, nextAt, refusing, going, stepped, stepAt}
 use Rattle.grammar.specs.Walk.{from}
 use Rattle.grammar.specs.Laws.Walk.{goes}
@@ -33,7 +33,7 @@ abbrev onward : (LineKind → List ℕ → Cut) → ℕ → Reach → Reading Su
 onward next n (halted c) = rejected c n
 onward next n (reached p acc e rest) = from next p acc (suc n) rest
 
-walk : (next : LineKind → List ℕ → Cut) (p : Place) (acc : List ℕ) (n : ℕ) (s : List ℕ) → isGoing p ≡ true
+walk : (next : LineKind → List ℕ → Cut) (p : Awaited) (acc : List ℕ) (n : ℕ) (s : List ℕ) → isGoing p ≡ true
     → from next p acc n s ≡ onward next n (lineStep next p acc s)
 unfolding lineThen lineStep stepAt
 walk next p acc n s g = ap (λ (w : ℕ → List ℕ → Reading Summary). w n s) (goes next p acc g) ∙ go (next (kindAt p) s)
@@ -69,7 +69,7 @@ walk next p acc n s g = ap (λ (w : ℕ → List ℕ → Reading Summary). w n s
 
 -- ---- the whole walk
 
-abbrev pub Running : (LineKind → List ℕ → Cut) → List ℕ → Place → List ℕ → ℕ → List ℕ → Type 0
+abbrev pub Running : (LineKind → List ℕ → Cut) → List ℕ → Awaited → List ℕ → ℕ → List ℕ → Type 0
 Running next source p acc n s = from next p acc n s ≡ from next AtDiagram [] 1 source
 
 whole : {form : LineKind → List ℕ → List ℕ} (next : LineKind → List ℕ → Cut) → Cuts form next → (source : List ℕ)
@@ -82,14 +82,14 @@ whole next cuts source = ap outcomeOf (walk-reads next cuts source) ∙ go (read
     go (read d n rest) = refl
 
 -- A turn from the place `p`, at line `n`: `acc` are the numbers so far, `s` is what is left of the source
-module _ {form : LineKind → List ℕ → List ℕ} (next : LineKind → List ℕ → Cut) (cuts : Cuts form next) (source : List ℕ) (p : Place)
+module _ {form : LineKind → List ℕ → List ℕ} (next : LineKind → List ℕ → Cut) (cuts : Cuts form next) (source : List ℕ) (p : Awaited)
     (acc s : List ℕ) (n : ℕ) (w : Running next source p acc n s) where
   pub halts : (f : Fault) → isGoing p ≡ true → halted (numberOf f) ≡ lineStep next p acc s
       → refused (numberOf f) n 0 ≡ summarised (diagramIn next source)
   unfolding outcomeOf
   halts f g e = sym (ap outcomeOf (sym w ∙ walk next p acc n s g ∙ ap (onward next n) (sym e))) ∙ whole next cuts source
 
-  pub goes-on : (q : Place) (acc′ : List ℕ) (e : ℕ) (rest : List ℕ) → isGoing p ≡ true → reached q acc′ e rest ≡ lineStep next p acc s
+  pub goes-on : (q : Awaited) (acc′ : List ℕ) (e : ℕ) (rest : List ℕ) → isGoing p ≡ true → reached q acc′ e rest ≡ lineStep next p acc s
       → Running next source q acc′ (n + 1) rest
   goes-on q acc′ e rest g x = rw add-one (sym (walk next p acc n s g ∙ ap (onward next n) (sym x)) ∙ w)
 
@@ -97,7 +97,7 @@ module _ {form : LineKind → List ℕ → List ℕ} (next : LineKind → List �
   unfolding from
   at-over g = go p g
     where
-      go : (p : Place) → isGoing p ≡ false → from next p acc n s ≡ nothingLeft next (totalsOf (countsAt p)) acc n s
+      go : (p : Awaited) → isGoing p ≡ false → from next p acc n s ≡ nothingLeft next (totalsOf (countsAt p)) acc n s
       go AtDiagram g = cc
       go AtTypes g = cc
       go (AtType t o l) g = cc

@@ -19,10 +19,10 @@ use Rattle.lexer.specs.Cuts.{kindOf, cutAt, fieldsOf, lineNumbers}
 use Rattle.lexer.specs.Tails.{line-to, line-not}
 use Rattle.grammar.specs.declared.Fault.{Fault}
 use Rattle.grammar.specs.declared.Fault.the-variants.{Malformed}
-use Rattle.grammar.specs.declared.Place.{Place}
+use Rattle.grammar.specs.declared.Awaited.{Awaited}
 use Rattle.grammar.specs.declared.Step.{Step}
 use Rattle.grammar.specs.declared.Step.the-variants.{Refused, Next}
-use Rattle.grammar.specs.Place.{kindAt, isGoing, fieldsAt}
+use Rattle.grammar.specs.Awaited.{kindAt, isGoing, fieldsAt}
 use Rattle.grammar.specs.Step.{stepOf, stepAt}
 use Rattle.grammar.specs.Room.{Room}
 use Rattle.grammar.specs.Laws.Room.{fields-at, line-room}
@@ -36,18 +36,18 @@ use Rattle.reader.specs.Reach.{halted, lineOf, reachOf, lineStep, Level,
 pub reach-refused : {s : Step} (f : Fault) (at end : ℕ) → s ≡ Refused f → Halted f ≡ reachOf s at end
 reach-refused f at end e = rw e
 
-pub reach-next : {s : Step} (p : Place) (at end : ℕ) → s ≡ Next p → Reached p at end ≡ reachOf s at end
+pub reach-next : {s : Step} (p : Awaited) (at end : ℕ) → s ≡ Next p → Reached p at end ≡ reachOf s at end
 reach-next p at end e = rw e
 
 pub halted-refusal : {l : Line} (f : Fault) (n : ℕ) → l ≡ Halted f → Faulty f n ≡ refusalOf l n
 halted-refusal f n e = rw e
 
-pub reached-refusal : {l : Line} {p : Place} {at end : ℕ} (n : ℕ) → l ≡ Reached p at end → Faulty Malformed n ≡ refusalOf l n
+pub reached-refusal : {l : Line} {p : Awaited} {at end : ℕ} (n : ℕ) → l ≡ Reached p at end → Faulty Malformed n ≡ refusalOf l n
 reached-refusal n e = rw e
 
 -- ---- room
 
-module _ {p : Place} {end : ℕ} (w : Room p end) (g : isGoing p ≡ true) where
+module _ {p : Awaited} {end : ℕ} (w : Room p end) (g : isGoing p ≡ true) where
   pub room-write : (kind : Kind) (table : List ℕ) → fieldsOf kind ≡ fieldsAt p → length table ≡ 708 → end + fieldsOf kind ≤ length table
   room-write kind table e l = omega (arith, line-room p end g (w .known))
 
@@ -58,12 +58,12 @@ module _ {p : Place} {end : ℕ} (w : Room p end) (g : isGoing p ≡ true) where
       → length table′ ≡ length table → end + n ≤ length table′
   room-check kind table table′ q e l l′ = omega (arith, line-room p end g (w .known))
 
-pub fields-same : (p : Place) (kind : Kind) {n : ℕ} (end : ℕ) → n ≡ fieldsOf kind → fieldsOf kind ≡ fieldsAt p → end + n ≡ end + fieldsAt p
+pub fields-same : (p : Awaited) (kind : Kind) {n : ℕ} (end : ℕ) → n ≡ fieldsOf kind → fieldsOf kind ≡ fieldsAt p → end + n ≡ end + fieldsAt p
 fields-same p kind end q e = ap (λ (k : ℕ). end + k) (q ∙ e)
 
 -- ---- a line that is cut off leads where its step says
 
-led : (next : LineKind → List ℕ → Cut) (p : Place) (acc s v source table : List ℕ) (at end : ℕ) (st : Step)
+led : (next : LineKind → List ℕ → Cut) (p : Awaited) (acc s v source table : List ℕ) (at end : ℕ) (st : Step)
     → next (kindAt p) s ≡ cut v (drop at source) → stepOf st ≡ stepAt p acc v → take end table ≡ acc ++ v → end ≡ length acc + length v
     → lineOf source table (reachOf st at end) ≡ lineStep next p acc s
 unfolding lineStep
@@ -71,7 +71,7 @@ led next p acc s v source table at end (Refused f) c e t l = rw (c, ← e, lineS
 led next p acc s v source table at end (Next q) c e t l = rw (c, ← e, lineStep, t, l)
 
 -- the numbers of a line behind those so far
-module _ (p : Place) (table : List ℕ) (end : ℕ) (h : end + fieldsAt p ≤ length table) where
+module _ (p : Awaited) (table : List ℕ) (end : ℕ) (h : end + fieldsAt p ≤ length table) where
   so-far : take (end + fieldsAt p) table ≡ take end table ++ take (fieldsAt p) (drop end table)
   so-far = take-add end (fieldsAt p) table
 
@@ -98,7 +98,7 @@ module _ (l : List ℕ) (end : ℕ) (ws : List ℕ) (h : end + length ws ≤ len
       ∙ ap (take n) (drop-at (take end l) (ws ++ drop (end + length ws) l) end front)
       ∙ take-at ws (drop (end + length ws) l) n e
 
-module _ (p : Place) (kind : Kind) (ek : kindOf kind ≡ kindAt p) (text : List ℕ) (at : ℕ) (f : Found)
+module _ (p : Awaited) (kind : Kind) (ek : kindOf kind ≡ kindAt p) (text : List ℕ) (at : ℕ) (f : Found)
     (e : f ≡ cutAt text at (textLine (kindOf kind) (drop at text))) where
   pub text-broken : (acc : List ℕ) → f ≡ Nothing → halted 1 ≡ lineStep textLine p acc (drop at text)
   unfolding lineStep
@@ -133,7 +133,7 @@ module _ (p : Place) (kind : Kind) (ek : kindOf kind ≡ kindAt p) (text : List 
 
 -- ---- of a table
 
-module _ (p : Place) (kind : Kind) (table : List ℕ) (at : ℕ) {n : ℕ} (ef : fieldsOf kind ≡ fieldsAt p) (en : n ≡ fieldsOf kind) where
+module _ (p : Awaited) (kind : Kind) (table : List ℕ) (at : ℕ) {n : ℕ} (ef : fieldsOf kind ≡ fieldsAt p) (en : n ≡ fieldsOf kind) where
   pub table-broken : at ≤ length table → length table < at + n → (acc : List ℕ) → halted 1 ≡ lineStep tableLine p acc (drop at table)
   unfolding lineStep
   table-broken h l acc =

@@ -12,11 +12,11 @@ use Rattle.orm.specs.Text.{textLine}
 use Rattle.lexer.specs.Cuts.{lineNumbers}
 use Rattle.lexer.specs.Tails.{line-sound}
 use Rattle.grammar.specs.declared.Fault.{Fault}
-use Rattle.grammar.specs.declared.Place.{Place}
-use Rattle.grammar.specs.declared.Place.the-variants.{AtDiagram}
+use Rattle.grammar.specs.declared.Awaited.{Awaited}
+use Rattle.grammar.specs.declared.Awaited.the-variants.{AtDiagram}
 use Rattle.grammar.specs.Fault.{numberOf}
-use Rattle.grammar.specs.Place.{kindAt, isGoing}
-use Rattle.grammar.specs.Step.{Stepped, refusing, going, stepAt}
+use Rattle.grammar.specs.Awaited.{kindAt, isGoing}
+use Rattle.grammar.specs.Step.{Consequence, refusing, going, stepAt}
 use Rattle.grammar.specs.Room.{Room}
 use Rattle.grammar.specs.Laws.Room.{line-room, some-fields}
 use Rattle.reader.specs.declared.Line.{Line}
@@ -33,29 +33,29 @@ sets-append l i (x ∷ a) b =
 
 -- ---- the clauses
 
-module _ (p : Place) (acc s : List ℕ) where
+module _ (p : Awaited) (acc s : List ℕ) where
   written-halted : (n c : ℕ) → isGoing p ≡ true → lineStep textLine p acc s ≡ halted c
       → writtenFrom (suc n) p acc s ≡ lineNumbers (kindAt p) s
   unfolding writtenFrom
   written-halted n c g e = rw (writtenFrom, g, e) (append-nil (lineNumbers (kindAt p) s))
 
-  written-more : (n : ℕ) (q : Place) (acc′ : List ℕ) (e : ℕ) (rest : List ℕ) → isGoing p ≡ true
+  written-more : (n : ℕ) (q : Awaited) (acc′ : List ℕ) (e : ℕ) (rest : List ℕ) → isGoing p ≡ true
       → lineStep textLine p acc s ≡ reached q acc′ e rest → writtenFrom (suc n) p acc s ≡ lineNumbers (kindAt p) s ++ writtenFrom n q acc′ rest
   unfolding writtenFrom
   written-more n q acc′ e rest g x = rw (writtenFrom, g, x)
 
-written-over : (n : ℕ) (p : Place) (acc s : List ℕ) → isGoing p ≡ false → writtenFrom n p acc s ≡ []
+written-over : (n : ℕ) (p : Awaited) (acc s : List ℕ) → isGoing p ≡ false → writtenFrom n p acc s ≡ []
 unfolding writtenFrom
 written-over zero p acc s g = refl
 written-over (suc n) p acc s g = rw (writtenFrom, g)
 
 -- a line that leads on is written whole
-reached-length : (p : Place) (acc s : List ℕ) (q : Place) (acc′ : List ℕ) (e : ℕ) (rest : List ℕ)
+reached-length : (p : Awaited) (acc s : List ℕ) (q : Awaited) (acc′ : List ℕ) (e : ℕ) (rest : List ℕ)
     → reached q acc′ e rest ≡ lineStep textLine p acc s → e ≡ length acc + length (lineNumbers (kindAt p) s)
 unfolding lineStep
 reached-length p acc s q acc′ e rest x = go (textLine (kindAt p) s) refl x
   where
-    fine : (v r : List ℕ) → lineNumbers (kindAt p) s ≡ v → (o : Stepped)
+    fine : (v r : List ℕ) → lineNumbers (kindAt p) s ≡ v → (o : Consequence)
         → _≡_ {A = Reach} (reached q acc′ e rest) (elim o [
           | refusing c ↦ halted c
           | going q ↦ reached q (acc ++ v) (length acc + length v) r
@@ -77,11 +77,11 @@ reached-length p acc s q acc′ e rest x = go (textLine (kindAt p) s) refl x
 
 -- ---- turn by turn: line `number` at `at` is next, and the numbers so far end at `end`
 
-pub record Stored (text table₀ table : List ℕ) (p : Place) (number at end : ℕ) : Type 0 where
+pub record Stored (text table₀ table : List ℕ) (p : Awaited) (number at end : ℕ) : Type 0 where
   pub is : sets table end (writtenFrom (709 - number) p (take end table) (drop at text)) ≡ sets table₀ 0 (written text)
 
 -- with the walk itself, whose next line this is
-pub record Turn (text table₀ table : List ℕ) (p : Place) (number at end : ℕ) : Type 0 where
+pub record Turn (text table₀ table : List ℕ) (p : Awaited) (number at end : ℕ) : Type 0 where
   pub run : Running textLine text p (take end table) number (drop at text)
   pub stored : Stored text table₀ table p number at end
 
@@ -89,7 +89,7 @@ pub stored-start : (text table : List ℕ) → Stored text table table AtDiagram
 unfolding written
 stored-start text table = record { is = refl }
 
-module _ (text table₀ table table′ : List ℕ) (p : Place) (number at end : ℕ) {b : Bool} (line : Line)
+module _ (text table₀ table table′ : List ℕ) (p : Awaited) (number at end : ℕ) {b : Bool} (line : Line)
     (w : Stored text table₀ table p number at end) (m : Room p end) (few : number ≤ end + 1) (eb : b ≡ isGoing p) (tb : b ≡ true)
     (step : lineOf text table′ line ≡ lineStep textLine p (take end table) (drop at text))
     (t : table′ ≡ sets table end (lineNumbers (kindAt p) (drop at text))) where
@@ -109,7 +109,7 @@ module _ (text table₀ table table′ : List ℕ) (p : Place) (number at end : 
       ∙ written-halted p (take end table) (drop at text) (709 - (number + 1)) (numberOf f) now-going (sym x)))
       ∙ w .is
 
-  pub stored-on : {q : Place} {at′ e : ℕ} → length (take end table) ≡ end → line ≡ Reached q at′ e
+  pub stored-on : {q : Awaited} {at′ e : ℕ} → length (take end table) ≡ end → line ≡ Reached q at′ e
       → Stored text table₀ table′ q (number + 1) at′ e
   stored-on {q} {at′} {e} front el =
       let ws = lineNumbers (kindAt p) (drop at text) in
@@ -127,7 +127,7 @@ module _ (text table₀ table table′ : List ℕ) (p : Place) (number at end : 
             ∙ w .is;
       }
 
-pub stored-over : (text table₀ table : List ℕ) (p : Place) (number at end : ℕ) {b : Bool} → Stored text table₀ table p number at end
+pub stored-over : (text table₀ table : List ℕ) (p : Awaited) (number at end : ℕ) {b : Bool} → Stored text table₀ table p number at end
     → b ≡ isGoing p → b ≡ false → table ≡ sets table₀ 0 (written text)
 stored-over text table₀ table p number at end w eb fb =
     ap (sets table end) (sym (written-over (709 - number) p (take end table) (drop at text) (sym eb ∙ fb))) ∙ w .is

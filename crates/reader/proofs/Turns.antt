@@ -20,11 +20,11 @@ use Rattle.reading.specs.Lines.{Cuts}
 use Rattle.reading.specs.Walk.{Summary, summary}
 use Rattle.grammar.specs.declared.Fault.{Fault}
 use Rattle.grammar.specs.declared.Counts.{Counts}
-use Rattle.grammar.specs.declared.Place.{Place}
-use Rattle.grammar.specs.declared.Place.the-variants.{AtDiagram}
-use Rattle.grammar.specs.Place.{kindAt, isGoing, countsAt, totalsOf, fieldsAt}
+use Rattle.grammar.specs.declared.Awaited.{Awaited}
+use Rattle.grammar.specs.declared.Awaited.the-variants.{AtDiagram}
+use Rattle.grammar.specs.Awaited.{kindAt, isGoing, countsAt, totalsOf, fieldsAt}
 use Rattle.grammar.specs.Step.{testsAt, nextAt, refusing, going, stepped, stepAt}
-use Rattle.grammar.specs.Room.{Known, Room}
+use Rattle.grammar.specs.Room.{RoomAt, Room}
 use Rattle.grammar.specs.Fault.{numberOf}
 use Rattle.grammar.specs.Laws.Room.{fields-at, some-fields, room-most, line-room, next-known}
 use Rattle.reader.specs.declared.Line.{Line}
@@ -35,7 +35,7 @@ use Rattle.reader.specs.Reach.{Reach, halted, reached, lineOf, lineStep,
 use Rattle.reader.proofs.Running.{Running, halts, goes-on, runs-on, ends}
 use Rattle.reader.proofs.Answers.{was-refused, was-accepted}
 
-pub is-going : (p : Place) {b : Bool} → b ≡ isGoing p → b ≡ true → isGoing p ≡ true
+pub is-going : (p : Awaited) {b : Bool} → b ≡ isGoing p → b ≡ true → isGoing p ≡ true
 is-going p e t = sym e ∙ t
 
 pub start-room : Room AtDiagram 0
@@ -45,14 +45,14 @@ pub as-long : (a b : List ℕ) {n : ℕ} → length a ≡ length b → length b 
 as-long a b e l = e ∙ l
 
 -- a table's position is where its numbers so far end
-level : {n : ℕ} {line : Line} {q : Place} {at end : ℕ} → Level n line → line ≡ Reached q at end → (at ≡ end) × (end ≤ n)
+level : {n : ℕ} {line : Line} {q : Awaited} {at end : ℕ} → Level n line → line ≡ Reached q at end → (at ≡ end) × (end ≤ n)
 level {n} v e = subst (λ (l : Line). LevelAt n l) e (v .at)
 
-pub level-within : (n : ℕ) {line : Line} {q : Place} {at end : ℕ} → Level n line → line ≡ Reached q at end → end ≤ n
+pub level-within : (n : ℕ) {line : Line} {q : Awaited} {at end : ℕ} → Level n line → line ≡ Reached q at end → end ≤ n
 level-within n v e = level v e .1
 
 -- a turn from the place `p`, with the numbers so far up to `end`
-module _ (p : Place) {b : Bool} (end : ℕ) (w : Room p end) (eb : b ≡ isGoing p) (tb : b ≡ true) where
+module _ (p : Awaited) {b : Bool} (end : ℕ) (w : Room p end) (eb : b ≡ isGoing p) (tb : b ≡ true) where
   room-now : end + fieldsAt p ≤ 708
   room-now = line-room p end (is-going p eb tb) (w .known)
 
@@ -60,7 +60,7 @@ module _ (p : Place) {b : Bool} (end : ℕ) (w : Room p end) (eb : b ≡ isGoing
   number-fits h = record { fits = omega (arith, room-now) }
 
 -- the numbers so far are as many as the place says
-pub front-text : (table : List ℕ) (p : Place) (end : ℕ) → Room p end → length table ≡ 708 → length (take end table) ≡ end
+pub front-text : (table : List ℕ) (p : Awaited) (end : ℕ) → Room p end → length table ≡ 708 → length (take end table) ≡ end
 front-text table p end w l = length-take-le end table (omega (arith, room-most p end w))
 
 pub front-table : (table : List ℕ) (end : ℕ) → end ≤ length table → length (take end table) ≡ end
@@ -68,11 +68,11 @@ front-table table end h = length-take-le end table h
 
 -- ---- where a line leads there is room, after its numbers
 
-record Led (p q : Place) (end e : ℕ) : Type 0 where
+record Led (p q : Awaited) (end e : ℕ) : Type 0 where
   room : Room q e
   after : e ≡ end + fieldsAt p
 
-led : {form : LineKind → List ℕ → List ℕ} (next : LineKind → List ℕ → Cut) → Cuts form next → (p : Place) (acc s : List ℕ) (q : Place)
+led : {form : LineKind → List ℕ → List ℕ} (next : LineKind → List ℕ → Cut) → Cuts form next → (p : Awaited) (acc s : List ℕ) (q : Awaited)
     (acc′ : List ℕ) (end e : ℕ) (rest : List ℕ) → length acc ≡ end → Room p end → isGoing p ≡ true
     → reached q acc′ e rest ≡ lineStep next p acc s → Led p q end e
 unfolding lineStep stepAt
@@ -88,7 +88,7 @@ led next cuts p acc s q acc′ end e rest la w g eq = go (next (kindAt p) s) ref
     fine v r l none f x =
         let same-place : q ≡ nextAt p acc v = cc in
         let same-end : e ≡ length acc + length v = cc in
-        let known : Known p (length acc) = rw la (w .known) in
+        let known : RoomAt p (length acc) = rw la (w .known) in
         record { room = record { known = rw (same-place, same-end) (next-known p acc v g known l f) }; after = omega arith }
 
     go : (c : Cut) → next (kindAt p) s ≡ c
@@ -122,10 +122,10 @@ accepted-ended o table end t front e =
 
 -- ---- a turn, whether over a text or over a table: `table′` holds the numbers after it
 
-module _ {form : LineKind → List ℕ → List ℕ} (next : LineKind → List ℕ → Cut) (source table table′ : List ℕ) (p : Place) (at end : ℕ)
+module _ {form : LineKind → List ℕ → List ℕ} (next : LineKind → List ℕ → Cut) (source table table′ : List ℕ) (p : Awaited) (at end : ℕ)
     {b : Bool} (line : Line) (cuts : Cuts form next) (w : Room p end) (front : length (take end table) ≡ end) (eb : b ≡ isGoing p)
     (tb : b ≡ true) (step : lineOf source table′ line ≡ lineStep next p (take end table) (drop at source)) where
-  module _ {q : Place} {at′ e : ℕ} (el : line ≡ Reached q at′ e) where
+  module _ {q : Awaited} {at′ e : ℕ} (el : line ≡ Reached q at′ e) where
     leads : reached q (take e table′) e (drop at′ source) ≡ lineStep next p (take end table) (drop at source)
     leads = subst (λ (l : Line). lineOf source table′ l ≡ lineStep next p (take end table) (drop at source)) el step
 
@@ -163,14 +163,14 @@ module _ {form : LineKind → List ℕ → List ℕ} (next : LineKind → List �
       (halts next cuts source p (take end table) (drop at source) number run f (is-going p eb tb)
       (subst (λ (l : Line). lineOf source table′ l ≡ lineStep next p (take end table) (drop at source)) el step)))
 
-pub turn-level : (table : List ℕ) (q : Place) (acc : List ℕ) (number at′ e : ℕ) (line : Line) → Level (length table) line
+pub turn-level : (table : List ℕ) (q : Awaited) (acc : List ℕ) (number at′ e : ℕ) (line : Line) → Level (length table) line
     → line ≡ Reached q at′ e → Running tableLine table q acc number (drop at′ table) → Running tableLine table q acc number (drop e table)
 turn-level table q acc number at′ e line v el run =
     subst (λ (k : ℕ). Running tableLine table q acc number (drop k table)) (level v el .0) run
 
 -- ---- behind the last line
 
-module _ {form : LineKind → List ℕ → List ℕ} (next : LineKind → List ℕ → Cut) (source table : List ℕ) (p : Place) (number at end : ℕ)
+module _ {form : LineKind → List ℕ → List ℕ} (next : LineKind → List ℕ → Cut) (source table : List ℕ) (p : Awaited) (number at end : ℕ)
     {b : Bool} (cuts : Cuts form next) (run : Running next source p (take end table) number (drop at source)) (eb : b ≡ isGoing p)
     (tb : b ≡ false) where
   pub surplus : at < length source → refused 1 number 0 ≡ summarised (diagramIn next source)

@@ -6,11 +6,11 @@ use lib.ListN.{length, take, drop}
 use Rattle.orm.specs.Diagram.{LineKind}
 use Rattle.orm.specs.Reader.{Cut, broken, cut}
 use Rattle.grammar.specs.declared.Fault.the-variants.{Malformed}
-use Rattle.grammar.specs.declared.Place.{Place}
+use Rattle.grammar.specs.declared.Awaited.{Awaited}
 use Rattle.grammar.specs.declared.Step.{Step}
 use Rattle.grammar.specs.declared.Step.the-variants.{Refused, Next}
 use Rattle.grammar.specs.Fault.{numberOf}
-use Rattle.grammar.specs.Place.{kindAt}
+use Rattle.grammar.specs.Awaited.{kindAt}
 use Rattle.grammar.specs.Step.{refusing, going, stepAt}
 use Rattle.reader.specs.declared.Line.{Line}
 use Rattle.reader.specs.declared.Line.the-variants.{Halted, Reached}
@@ -20,7 +20,7 @@ use Rattle.reader.specs.declared.Lines.the-variants.{Faulty}
 -- A refusal; or the next place, the numbers so far, how many they are, and what follows
 pub data Reach : Type 0 where
   halted : ℕ → Reach
-  reached : Place → List ℕ → ℕ → List ℕ → Reach
+  reached : Awaited → List ℕ → ℕ → List ℕ → Reach
 
 -- Positions in the source stand for what follows them
 abbrev pub lineOf : List ℕ → List ℕ → Line → Reach
@@ -32,7 +32,7 @@ reachOf (Refused f) at end = Halted f
 reachOf (Next p) at end = Reached p at end
 
 -- `next` cuts off the line
-unfoldable pub lineStep : (LineKind → List ℕ → Cut) → Place → List ℕ → List ℕ → Reach
+unfoldable pub lineStep : (LineKind → List ℕ → Cut) → Awaited → List ℕ → List ℕ → Reach
 lineStep next p acc s =
     elim (next (kindAt p) s) [
       | broken ↦ halted 1
@@ -44,7 +44,7 @@ lineStep next p acc s =
     ]
 
 -- The line at `at` in the source, after the numbers up to `end` in the table
-abbrev pub stepFrom : (LineKind → List ℕ → Cut) → Place → List ℕ → ℕ → List ℕ → ℕ → Reach
+abbrev pub stepFrom : (LineKind → List ℕ → Cut) → Awaited → List ℕ → ℕ → List ℕ → ℕ → Reach
 stepFrom next p table end source at = lineStep next p (take end table) (drop at source)
 
 -- Of a table the position is where the numbers so far end, within its length

@@ -4,14 +4,14 @@ use mathlib.Core.Bool.{true, false}
 use mathlib.Core.List.{List, [], _++_}
 use Rattle.orm.specs.Text.{textLine}
 use Rattle.lexer.specs.Cuts.{lineNumbers}
-use Rattle.grammar.specs.declared.Place.{Place}
-use Rattle.grammar.specs.declared.Place.the-variants.{AtDiagram}
-use Rattle.grammar.specs.Place.{kindAt, isGoing}
+use Rattle.grammar.specs.declared.Awaited.{Awaited}
+use Rattle.grammar.specs.declared.Awaited.the-variants.{AtDiagram}
+use Rattle.grammar.specs.Awaited.{kindAt, isGoing}
 use Rattle.reader.specs.Reach.{halted, reached, lineStep}
 
 -- Of up to so many lines from a place on, `acc` being the numbers before them: those of each line, and of the line that is
 -- refused those before its fault
-unfoldable pub writtenFrom : ℕ → Place → List ℕ → List ℕ → List ℕ
+unfoldable pub writtenFrom : ℕ → Awaited → List ℕ → List ℕ → List ℕ
 writtenFrom zero p acc s = []
 writtenFrom (suc n) p acc s =
     elim (isGoing p) [

@@ -6,8 +6,8 @@ mod walk;
 
 use crate::walk::read_lines;
 use crate::walk::table_lines;
+use grammar::Awaited;
 use grammar::Fault;
-use grammar::Place;
 ghost use mathlib.Core.Path.{_≡_};
 ghost use mathlib.Core.List.{_++_};
 ghost use Prim.Native.Nat.{_≤_};
@@ -24,7 +24,11 @@ const FIRST_LINE: usize = 1;
 // far end in the table.
 enum Line {
     Halted(Fault),
-    Reached { place: Place, at: usize, end: usize },
+    Reached {
+        place: Awaited,
+        at: usize,
+        end: usize,
+    },
 }
 
 // How the lines end: the first fault and its line, or the whole diagram, with its table's length and what it has.

@@ -2,8 +2,8 @@
 use crate::FIRST_LINE;
 use crate::Line;
 use crate::Lines;
+use grammar::Awaited;
 use grammar::Fault;
-use grammar::Place;
 use grammar::Step;
 use grammar::places::counts_at;
 use grammar::places::is_going;
@@ -21,7 +21,7 @@ ghost use lib.Seq.{sets};
 ghost use Rattle.orm.specs.Text.{textLine, tableLine};
 ghost use Rattle.orm.specs.Calls.{diagramIn};
 ghost use Rattle.lexer.specs.Cuts.{lineNumbers};
-ghost use Rattle.grammar.specs.Place.{kindAt, isGoing};
+ghost use Rattle.grammar.specs.Awaited.{kindAt, isGoing};
 ghost use Rattle.grammar.specs.Room.{Room};
 ghost use Rattle.reader.specs.Reach.{reachOf, lineOf, stepFrom, refusalOf, Level};
 ghost use Rattle.reader.specs.Lines.{endOf, ended, linesOf, summarised, Inside};
@@ -38,7 +38,7 @@ fn reach(step: Step, at: usize, end: usize) -> Line
 }
 
 // The line of the text at `at`; its numbers go to the table at `end`, those before a fault too.
-fn text_step(place: Place, text: &[u8], at: usize, table: &mut [u32], end: usize) -> Line
+fn text_step(place: Awaited, text: &[u8], at: usize, table: &mut [u32], end: usize) -> Line
     requires { ⌜ Room place end ⌝ }
     requires { ⌜ isGoing place ≡ true ⌝ }
     requires { ⌜ length (now table) ≡ 708 ⌝ }
@@ -54,7 +54,7 @@ fn text_step(place: Place, text: &[u8], at: usize, table: &mut [u32], end: usize
 }
 
 // The line of the table at `at`.
-fn table_step(place: Place, table: &[u32], at: usize) -> Line
+fn table_step(place: Awaited, table: &[u32], at: usize) -> Line
     requires { ⌜ Room place at ⌝ }
     requires { ⌜ isGoing place ≡ true ⌝ }
     requires { ⌜ at ≤ length (now table) ⌝ }
@@ -96,7 +96,7 @@ pub fn read_lines(text: &[u8], table: &mut [u32]) -> Lines
     ensures { λ r. ⌜ Inside 708 r ⌝ }
     ensures { λ r. ⌜ linesOf (now (table .exit)) r ≡ summarised (diagramIn textLine (now (text .entry))) ⌝ }
 {
-    let mut place = Place::AtDiagram;
+    let mut place = Awaited::AtDiagram;
     let mut number = FIRST_LINE;
     let mut at = 0;
     let mut end = 0;
@@ -136,7 +136,7 @@ pub fn table_lines(table: &[u32]) -> Lines
     ensures { λ r. ⌜ endOf r ≡ ended (diagramIn tableLine (now (table .entry))) ⌝ }
     ensures { λ r. ⌜ linesOf (now (table .entry)) r ≡ summarised (diagramIn tableLine (now (table .entry))) ⌝ }
 {
-    let mut place = Place::AtDiagram;
+    let mut place = Awaited::AtDiagram;
     let mut number = FIRST_LINE;
     let mut end = 0;
     while is_going(place) {

@@ -13,13 +13,13 @@ use Rattle.orm.specs.Meaning.{Between}
 use Rattle.reading.specs.Lines.{InRanges, tested-decides}
 use Rattle.grammar.specs.declared.Counts.{Counts}
 use Rattle.grammar.specs.declared.Block.{Block}
-use Rattle.grammar.specs.declared.Place.{Place}
-use Rattle.grammar.specs.declared.Place.the-variants.{AtDiagram, AtTypes, AtType, AtPreds, AtPred, AtRole, AtFreq, AtEnd, Over}
-use Rattle.grammar.specs.Place.{typesFrom, predsLeft, groupsFrom, rolesFrom, blockOf, countsOf, kindAt, isGoing, fieldsAt}
+use Rattle.grammar.specs.declared.Awaited.{Awaited}
+use Rattle.grammar.specs.declared.Awaited.the-variants.{AtDiagram, AtTypes, AtType, AtPreds, AtPred, AtRole, AtFreq, AtEnd, Over}
+use Rattle.grammar.specs.Awaited.{typesFrom, predsLeft, groupsFrom, rolesFrom, blockOf, countsOf, kindAt, isGoing, fieldsAt}
 use Rattle.grammar.specs.Step.{faultIn, testsAt, nextAt}
-use Rattle.grammar.specs.Room.{Within, Own, Known, Room}
+use Rattle.grammar.specs.Room.{Within, Own, RoomAt, Room}
 
-pub fields-at : (p : Place) → fields (kindAt p) ≡ fieldsAt p
+pub fields-at : (p : Awaited) → fields (kindAt p) ≡ fieldsAt p
 unfolding fields ranges
 fields-at AtDiagram = refl
 fields-at AtTypes = refl
@@ -32,7 +32,7 @@ fields-at (AtEnd c) = refl
 fields-at (Over c) = refl
 
 -- There is room for a line
-pub line-room : (p : Place) (end : ℕ) → isGoing p ≡ true → Known p end → end + fieldsAt p ≤ 708
+pub line-room : (p : Awaited) (end : ℕ) → isGoing p ≡ true → RoomAt p end → end + fieldsAt p ≤ 708
 line-room AtDiagram end g k = omega arith
 line-room AtTypes end g k = omega arith
 line-room (AtType t o l) end g k = omega arith
@@ -43,7 +43,7 @@ line-room (AtFreq b o l) end g k = omega (arith, k .0 .numbers, k .0 .roles, k .
 line-room (AtEnd c) end g k = omega arith
 line-room (Over c) end g k = let z : _≡_ {A = ℕ} 0 1 = cc in absurd (omega arith)
 
-pub some-fields : (p : Place) → 1 ≤ fieldsAt p
+pub some-fields : (p : Awaited) → 1 ≤ fieldsAt p
 some-fields AtDiagram = omega arith
 some-fields AtTypes = omega arith
 some-fields (AtType t o l) = omega arith
@@ -54,10 +54,10 @@ some-fields (AtFreq b o l) = omega arith
 some-fields (AtEnd c) = omega arith
 some-fields (Over c) = omega arith
 
-pub room-most : (p : Place) (end : ℕ) → Room p end → end ≤ 708
+pub room-most : (p : Awaited) (end : ℕ) → Room p end → end ≤ 708
 room-most p end w = go p (w .known)
   where
-    go : (p : Place) → Known p end → end ≤ 708
+    go : (p : Awaited) → RoomAt p end → end ≤ 708
     go AtDiagram k = omega arith
     go AtTypes k = omega arith
     go (AtType t o l) k = omega arith
@@ -84,29 +84,29 @@ pred-within (a ∷ b ∷ c ∷ d ∷ v) l h = (h .1 .1 .0 .1, h .1 .1 .1 .0 .1)
 
 -- ---- where a line leads
 
-types-known : (t own left done : ℕ) → done + 6 * left ≤ 194 → own + left ≤ 33 → Known (typesFrom t own left) done
+types-known : (t own left done : ℕ) → done + 6 * left ≤ 194 → own + left ≤ 33 → RoomAt (typesFrom t own left) done
 types-known t own zero done h k = omega arith
 types-known t own (suc left) done h k = (omega arith, omega arith)
 
-preds-known : (c : Counts) (left done : ℕ) → c .left ≡ left → Within c done 0 → Known (predsLeft c left) done
+preds-known : (c : Counts) (left done : ℕ) → c .left ≡ left → Within c done 0 → RoomAt (predsLeft c left) done
 preds-known c zero done e w = omega (arith, w .numbers, w .roles, w .groups)
 preds-known c (suc left) done e w = record { numbers = omega (arith, w .numbers); roles = w .roles; groups = w .groups }
 
 groups-known : (b : Block) (own left done : ℕ) → Within (b .counts) done (2 * left) → Own b → own + left ≤ 7
-    → Known (groupsFrom b own left) done
+    → RoomAt (groupsFrom b own left) done
 groups-known b own zero done w o h =
     preds-known (b .counts) (b .counts .left) done refl
     (record { numbers = omega (arith, w .numbers); roles = w .roles; groups = w .groups })
 groups-known b own (suc left) done w o h = (w, o, omega arith)
 
-roles-known : (b : Block) (left done : ℕ) → Within (b .counts) done (3 * left + 2 * b .groups) → Own b → Known (rolesFrom b left) done
+roles-known : (b : Block) (left done : ℕ) → Within (b .counts) done (3 * left + 2 * b .groups) → Own b → RoomAt (rolesFrom b left) done
 roles-known b zero done w o =
     groups-known b 1 (b .groups) done (record { numbers = omega (arith, w .numbers); roles = w .roles; groups = w .groups }) o
     (omega (arith, o .groups))
 roles-known b (suc left) done w o = (w, o)
 
-pub next-known : (p : Place) (s v : List ℕ) → isGoing p ≡ true → Known p (length s) → length v ≡ fieldsAt p
-    → faultIn (kindAt p) v (testsAt p s v) ≡ none → Known (nextAt p s v) (length s + length v)
+pub next-known : (p : Awaited) (s v : List ℕ) → isGoing p ≡ true → RoomAt p (length s) → length v ≡ fieldsAt p
+    → faultIn (kindAt p) v (testsAt p s v) ≡ none → RoomAt (nextAt p s v) (length s + length v)
 unfolding ranges predTests mostRoles mostGroups
 next-known AtDiagram s v g k l f = omega arith
 next-known AtTypes s v g k l f =

@@ -12,9 +12,9 @@ use Rattle.orm.specs.Form.{Test, typeOf, roleOf, groupOf, headOf, typeTests, pr
 use Rattle.reading.specs.Walk.{rolesAt, Walk, lineThen, linesThen, fromEnd, groupsThen, rolesThen, fromPreds, fromPredsLine, fromTypes, fromTypesLine, fromStart}
 use Rattle.grammar.specs.declared.Counts.{Counts}
 use Rattle.grammar.specs.declared.Block.{Block}
-use Rattle.grammar.specs.declared.Place.{Place}
-use Rattle.grammar.specs.declared.Place.the-variants.{AtDiagram, AtTypes, AtType, AtPreds, AtPred, AtRole, AtFreq, AtEnd, Over}
-use Rattle.grammar.specs.Place.{countsOf, totalsOf, blockOf, typesFrom, predsLeft, groupsFrom, rolesFrom, kindAt, isGoing}
+use Rattle.grammar.specs.declared.Awaited.{Awaited}
+use Rattle.grammar.specs.declared.Awaited.the-variants.{AtDiagram, AtTypes, AtType, AtPreds, AtPred, AtRole, AtFreq, AtEnd, Over}
+use Rattle.grammar.specs.Awaited.{countsOf, totalsOf, blockOf, typesFrom, predsLeft, groupsFrom, rolesFrom, kindAt, isGoing}
 use Rattle.grammar.specs.Step.{testsAt, nextAt}
 use Rattle.grammar.specs.Walk.{groupsOf, rolesOf, from}
 
@@ -49,7 +49,7 @@ module _ (next : LineKind → List ℕ → Cut) where
       lines-any roleLine (λ acc v. roleTests (b .counts .types) (b .groups) (roleOf v)) 1 own (suc left) (groupsOf next b 1 (b .groups))
 
   -- The walk from a place asks for a line, and goes on from the next place
-  pub goes : (p : Place) (acc : List ℕ) → isGoing p ≡ true
+  pub goes : (p : Awaited) (acc : List ℕ) → isGoing p ≡ true
       → from next p acc ≡ lineThen next (kindAt p) (testsAt p acc) (λ v. from next (nextAt p acc v)) acc
   unfolding from fromStart fromTypesLine fromTypes groupsThen rolesThen linesThen fromPreds fromEnd fromPredsLine
   goes AtDiagram acc g = refl

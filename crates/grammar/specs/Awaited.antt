@@ -6,8 +6,8 @@ use lib.ListN.{getD}
 use Rattle.orm.specs.Diagram.{Totals, LineKind, diagramLine, typesLine, typeLine, predsLine, predLine, roleLine, freqLine, endLine}
 use Rattle.grammar.specs.declared.Counts.{Counts}
 use Rattle.grammar.specs.declared.Block.{Block}
-use Rattle.grammar.specs.declared.Place.{Place}
-use Rattle.grammar.specs.declared.Place.the-variants.{AtDiagram, AtTypes, AtType, AtPreds, AtPred, AtRole, AtFreq, AtEnd, Over}
+use Rattle.grammar.specs.declared.Awaited.{Awaited}
+use Rattle.grammar.specs.declared.Awaited.the-variants.{AtDiagram, AtTypes, AtType, AtPreds, AtPred, AtRole, AtFreq, AtEnd, Over}
 
 -- ---- what is known
 
@@ -32,28 +32,28 @@ blockOf c first v = record {
 
 -- ---- the place with so many lines of a kind left
 
-abbrev pub typesFrom : ℕ → ℕ → ℕ → Place
+abbrev pub typesFrom : ℕ → ℕ → ℕ → Awaited
 typesFrom types own zero = AtPreds types
 typesFrom types own (suc left) = AtType types own left
 
-abbrev pub predsLeft : Counts → ℕ → Place
+abbrev pub predsLeft : Counts → ℕ → Awaited
 predsLeft c zero = AtEnd c
 predsLeft c (suc left) = AtPred (withLeft c left)
 
-abbrev pub predsFrom : Counts → Place
+abbrev pub predsFrom : Counts → Awaited
 predsFrom c = predsLeft c (c .left)
 
-abbrev pub groupsFrom : Block → ℕ → ℕ → Place
+abbrev pub groupsFrom : Block → ℕ → ℕ → Awaited
 groupsFrom b own zero = predsFrom (b .counts)
 groupsFrom b own (suc left) = AtFreq b own left
 
-abbrev pub rolesFrom : Block → ℕ → Place
+abbrev pub rolesFrom : Block → ℕ → Awaited
 rolesFrom b zero = groupsFrom b 1 (b .groups)
 rolesFrom b (suc left) = AtRole b left
 
 -- ---- a place
 
-abbrev pub kindAt : Place → LineKind
+abbrev pub kindAt : Awaited → LineKind
 kindAt AtDiagram = diagramLine
 kindAt AtTypes = typesLine
 kindAt (AtType types own left) = typeLine
@@ -65,7 +65,7 @@ kindAt (AtEnd c) = endLine
 kindAt (Over c) = endLine
 
 -- The number of values on the line
-abbrev pub fieldsAt : Place → ℕ
+abbrev pub fieldsAt : Awaited → ℕ
 fieldsAt AtDiagram = 1
 fieldsAt AtTypes = 1
 fieldsAt (AtType types own left) = 6
@@ -76,7 +76,7 @@ fieldsAt (AtFreq b own left) = 2
 fieldsAt (AtEnd c) = 1
 fieldsAt (Over c) = 1
 
-abbrev pub isGoing : Place → Bool
+abbrev pub isGoing : Awaited → Bool
 isGoing AtDiagram = true
 isGoing AtTypes = true
 isGoing (AtType types own left) = true
@@ -88,7 +88,7 @@ isGoing (AtEnd c) = true
 isGoing (Over c) = false
 
 -- The counts at the end; before it none
-abbrev pub countsAt : Place → Counts
+abbrev pub countsAt : Awaited → Counts
 countsAt AtDiagram = countsOf 0 0
 countsAt AtTypes = countsOf 0 0
 countsAt (AtType types own left) = countsOf 0 0

@@ -1,5 +1,6 @@
 pub mod Fault
 pub mod Bounds
+pub mod Listed
 pub mod Awaited
 pub mod Step
 pub mod Room

@@ -5,6 +5,7 @@ ghost use lib.ListN.{getD};
 ghost use Rattle.orm.specs.Form.{unlimited, ranges, inRange, inRanges};
 ghost use Rattle.lexer.specs.Cuts.{kindOf};
 ghost use Rattle.grammar.specs.Bounds.{rangeOf};
+ghost use Rattle.grammar.specs.Listed.{HasBounds};
 
 // What a number may be.
 enum Bounds {
@@ -17,7 +18,7 @@ enum Bounds {
 // The range of a field: keys in the order of the file, fields in the order of the line, numbered from 0. `end` has no range,
 // and `_` is a field that the key does not have.
 fn bounds_of(key: Kind, field: usize) -> Bounds
-    ensures { λ r. ⌜ rangeOf r ≡ getD (ranges (kindOf key)) field unlimited ⌝ }
+    ensures { λ r. ⌜ HasBounds key field r ⌝ }
 {
     match key {
         Kind::DiagramLine => match field {

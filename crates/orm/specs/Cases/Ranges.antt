@@ -14,23 +14,24 @@ use Rattle.orm.specs.Cases.All.{everything}
 use Rattle.orm.specs.Cases.Marked.{text}
 
 -- A field with a range: its key, its number on the line, from 0, and its low and high bound
-data Field : Type 0 where
+pub data Field : Type 0 where
   field : LineKind → ℕ → ℕ → ℕ → Field
 
 -- of a key, from this number on
-fieldsFrom : LineKind → ℕ → List Range → List Field
+unfoldable pub fieldsFrom : LineKind → ℕ → List Range → List Field
 fieldsFrom k i [] = []
 fieldsFrom k i (low to high ∷ rs) = field k i low high ∷ fieldsFrom k (suc i) rs
 fieldsFrom k i (unlimited ∷ rs) = fieldsFrom k (suc i) rs
 
 -- of all keys, in the order of the file
-rangedFields : List Field
+unfoldable pub rangedFields : List Field
 rangedFields = flatten (map (λ (k : LineKind). fieldsFrom k 0 (ranges k))
     (diagramLine ∷ typesLine ∷ typeLine ∷ predsLine ∷ predLine ∷ roleLine ∷ freqLine ∷ endLine ∷ []))
 
 -- T, P 1..32; 'Ranges: the first line 1; MIN, MAX, FMIN, FMAX 1..4096; FIRST, LAST 0..999999; SUPER 0..32 (0: none); INDEP, MAND 0..1;
 -- ROLES 1..6; GROUPS 0..6; TYPE 1..32; GROUP 0..6'. There are no others: '`end` has no range of its own'
-ranged-fields : rangedFields ≡
+abbrev pub documentRanges : List Field
+documentRanges =
     field diagramLine 0 1 1  -- the first line
     ∷ field typesLine 0 1 32  -- T
     ∷ field typeLine 0 1 4096  -- MIN
@@ -50,6 +51,8 @@ ranged-fields : rangedFields ≡
     ∷ field freqLine 0 1 4096  -- FMIN
     ∷ field freqLine 1 1 4096  -- FMAX
     ∷ []
+
+pub ranged-fields : rangedFields ≡ documentRanges
 unfolding everything rangedFields fieldsFrom
 ranged-fields = refl
 

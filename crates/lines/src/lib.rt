@@ -39,7 +39,7 @@ pub fn next<'s, 'a>(reader: &'s mut LineReader<'a>) -> Line
     step.line
 }
 
-// The same with plain parameters: whoever calls it needs no walk by hand.
+// The next line from an offset on, with plain parameters: whoever calls it needs no walk by hand.
 pub fn line_from(text: &[u8], offset: usize) -> Step
     ensures { λ step. ⌜ step ≡ stepFrom (now (text .entry)) offset ⌝ }
 {

@@ -40,7 +40,7 @@ module _ (form : LineKind → List ℕ → List ℕ) where
       pub only : (n : ℕ) (s : List ℕ) (a : A) (n′ : ℕ) (rest : List ℕ) → m n s ≡ read a n′ rest → Read W L n s a n′ rest
       pub every : (a : A) → W a → (n : ℕ) (rest : List ℕ) → m n (written (L a) ++ rest) ≡ read a (n + length (L a)) rest
 
-    -- The same, said otherwise
+    -- A reader is exact for any equal form and equal lines
     pub exact-as : {m : Reader A} {W W′ : A → Type 0} {L L′ : A → List Line} → ((a : A) → W a ↔ W′ a) → ((a : A) → W a → L a ≡ L′ a)
         → Exact m W L → Exact m W′ L′
     exact-as {m} {W} {W′} {L} {L′} e l x = record {

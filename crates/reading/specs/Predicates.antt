@@ -36,7 +36,7 @@ NextPreds types roles groups (suc k) [] = ⊥
 NextPreds types roles groups (suc k) (p ∷ ps) =
     NextPred types roles groups p × NextPreds types (roles + length (p .roles)) (groups + length (p .groups)) k ps
 
--- The same with totals instead of running counts
+-- So many predicates that keep to their form, and their roles and groups to the totals
 pub record PredsForm (types roles groups k : ℕ) (ps : List Predicate) : Type 0 where
   pub counted : length ps ≡ k
   pub each : Each (PredForm types) ps

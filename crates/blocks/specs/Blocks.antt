@@ -3,8 +3,7 @@
 -- Code that walks cells stands at a position `at`; what it reads there is a definition of the list `drop at s`.
 use Prim.Native.Nat.{ℕ, suc, _+_, _*_}
 use mathlib.Core.Bool.{Bool, true, false}
-use mathlib.Core.Option.{Option, none, some}
-use mathlib.Core.List.{List, [], _∷_, map}
+use mathlib.Core.List.{List, [], _∷_}
 use lib.Dec.{leb}
 use lib.ListN.{length, getD, take, drop, replicate}
 use Rattle.orm.specs.Diagram.{ObjectType, Predicate, Diagram}

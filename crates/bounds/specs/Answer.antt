@@ -1,9 +1,8 @@
 -- What the check hands back, and what it leaves in the buffer, in document 01's words.
-use Prim.Native.Nat.{ℕ, suc, _+_, _*_, _≤_}
+use Prim.Native.Nat.{ℕ, _+_, _*_, _≤_}
 use mathlib.Core.Path.{_≡_}
 use mathlib.Core.List.{List}
 use lib.ListN.{length}
-use Rattle.orm.specs.Diagram.{allRoles}
 use Rattle.orm.specs.Outcome.{Outcome, refused, accepted, bufferAfter, Sized, written, Handed, handedBack}
 use Rattle.orm.specs.Sets.{lower, limits}
 use Rattle.lowering.specs.Encoding.{encode}

@@ -1,12 +1,12 @@
 -- Loops down a column: the test of what is left comes to the test of the whole column. `e` is the next place.
 use Prim.Native.Nat.{ℕ, _-_, _≤_, _<_}
-use mathlib.Core.Path.{_≡_, refl, sym, ap, _∙_}
-use mathlib.Core.Bool.{Bool, true, false, not, _&&_}
-use mathlib.Core.List.{List, [], _∷_}
-use lib.Dec.{eqb, leb}
+use mathlib.Core.Path.{_≡_, sym, ap, _∙_}
+use mathlib.Core.Bool.{Bool, true, false, not}
+use mathlib.Core.List.{List}
+use lib.Dec.{eqb}
 use lib.ListN.{getD, drop}
-use borrow.Author.Tests.{eq-eqb, ne-eqb, le-leb, lt-leb, not-true, not-false}
-use Rattle.counting.specs.Distinct.{all, member, within}
+use borrow.Author.Tests.{eq-eqb, ne-eqb, not-true, not-false}
+use Rattle.counting.specs.Distinct.{all, member}
 use Rattle.orm.specs.Form.{inRange, _to_}
 use Rattle.columns.specs.declared.Column.{Column}
 use Rattle.columns.specs.Values.{spaced, valuesIn}

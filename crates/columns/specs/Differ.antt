@@ -2,23 +2,22 @@
 use Prim.Native.Nat.{ℕ, zero, suc, _≤_, _<_}
 use native.Mathlib.Omega.{arith}
 use mathlib.Core.Path.{_≡_, refl, sym, ap, ap₂, _∙_}
-use mathlib.Core.Logic.{_↔_, Iff·trans, Iff·symm}
-use mathlib.Core.Bool.{Bool, true, false, and-true}
+use mathlib.Core.Logic.{Iff·trans, Iff·symm}
+use mathlib.Core.Bool.{Bool, and-true}
 use mathlib.Core.List.{List, [], _∷_, map}
 use lib.Dec.{eqb}
-use lib.ListN.{length, getD, take, drop}
+use lib.ListN.{length, take, drop}
 use lib.Seq.{getD-take, length-take-le}
 use Rattle.counting.specs.Lists.{same, combination, upFrom}
-use Rattle.counting.specs.Distinct.{all, occurrences, allDiffer}
-use Rattle.counting.specs.Terms.{_∈_, Each, NoRepeats}
+use Rattle.counting.specs.Distinct.{occurrences, allDiffer}
+use Rattle.counting.specs.Terms.{Each}
 use Rattle.counting.specs.Laws.Members.{each-head, each-tail}
 use Rattle.counting.specs.Laws.Range.{map-getD-below}
 use Rattle.counting.specs.Laws.Distinct.{bool-ext, all-decides, allDiffer-decides}
 use Rattle.counting.specs.Laws.Instances.{same-decides}
 use Rattle.columns.specs.Single.{occurs, no-repeats-iff-once, allDiffer-map}
-use Rattle.orm.specs.Form.{_to_, inRange}
+use Rattle.orm.specs.Form.{_to_}
 use Rattle.orm.specs.Population.{rowsOf}
-use Rattle.orm.specs.Meaning.{Between}
 use Rattle.orm.specs.Laws.Decided.{inRange-decides}
 use Rattle.columns.specs.declared.Column.{Column}
 use Rattle.columns.specs.declared.Rows.{Rows}

@@ -1,8 +1,6 @@
 // The program's standard output, as a function of its standard input: reading, check and populating,
 // and the report or the refusal.
 ghost use mathlib.Core.Path.{_≡_};
-ghost use mathlib.Core.List.{[], _∷_};
-ghost use Prim.Native.Nat.{_≤_};
 ghost use lib.ListN.{length};
 ghost use Rattle.orm.specs.Program.{program};
 ghost use Rattle.buffer.specs.Written.{Wrote};

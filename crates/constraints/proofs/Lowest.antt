@@ -7,12 +7,12 @@ use mathlib.Core.Bool.{Bool, true, false, not}
 use mathlib.Core.Option.{Option, none, some}
 use mathlib.Core.List.{List, [], _∷_}
 use lib.Dec.{leb}
-use lib.ListN.{length, getD, drop}
+use lib.ListN.{drop}
 use borrow.Author.Tests.{le-leb, lt-leb, not-true, not-false}
 use Rattle.orm.specs.Diagram.{Diagram}
-use Rattle.orm.specs.Form.{typeOf, roleOf}
+use Rattle.orm.specs.Form.{typeOf}
 use Rattle.orm.specs.Population.{Population}
-use Rattle.orm.specs.Constraints.{Answer, valid, breaks, eachType, eachPred, firstFalse, firstBroken, constraints, answer}
+use Rattle.orm.specs.Constraints.{breaks, eachType, eachPred, firstFalse, firstBroken, constraints, answer}
 use Rattle.table.specs.Positions.{predOf, predLength, typesIn, predsIn, typeCount, predCount, firstPredAt, diagramOf}
 use Rattle.table.specs.Laws.Walks.{each-more, each-none, preds-more, preds-none}
 use Rattle.blocks.specs.Blocks.{blockLength, contents, predWidth, membersAt, rowsAt, membersIn, rowsIn, behindTypes, populationAt}

@@ -1,22 +1,20 @@
 -- K5 to K8 of the predicate at `pred` in the table, with its block at `at` in the cells.
 use Prim.Native.Nat.{ℕ, zero, suc, _+_, _-_, _≤_, _<_}
 use native.Mathlib.Numerals.{add-one}
-use native.Mathlib.Omega.{arith}
-use mathlib.Core.Path.{_≡_, refl, sym, ap, ap₂, subst⁻¹, _∙_}
+use mathlib.Core.Path.{_≡_, refl, sym, ap, subst⁻¹, _∙_}
 use mathlib.Core.Bool.{Bool, true, false, not, _&&_}
 use mathlib.Core.List.{List, [], _∷_}
 use lib.Dec.{eqb}
-use lib.ListN.{length, getD, take, drop}
-use lib.Seq.{drop-drop}
-use borrow.Author.Tests.{eq-eqb, ne-eqb, not-true, not-false}
+use lib.ListN.{length, getD, drop}
+use borrow.Author.Tests.{ne-eqb, not-true, not-false}
 use Rattle.counting.specs.Lists.{mapFrom, same, column}
 use Rattle.counting.specs.Distinct.{all, within, allDiffer}
 use Rattle.orm.specs.Diagram.{Role, Predicate, isMandatory}
 use Rattle.orm.specs.Form.{roleOf, _to_, inRange}
 use Rattle.orm.specs.Population.{Population, rowsOf}
-use Rattle.orm.specs.Constraints.{Played, played, membersOf, K5, K6, K7, K8, K9}
+use Rattle.orm.specs.Constraints.{Played, played, membersOf, K5, K6, K7, K8}
 use Rattle.table.specs.Positions.{predOf, rolesIn}
-use Rattle.table.specs.Laws.Walks.{each-more, each-none, each-length}
+use Rattle.table.specs.Laws.Walks.{each-more, each-none}
 use Rattle.columns.specs.declared.Column.{Column}
 use Rattle.columns.specs.declared.Rows.{Rows}
 use Rattle.columns.specs.Values.{valuesIn}
@@ -24,7 +22,7 @@ use Rattle.columns.specs.Differ.{Wide, rowsHeld}
 use Rattle.blocks.specs.Blocks.{predWidth, rowsAt}
 use Rattle.blocks.specs.Places.{RowsHere, roles-at}
 use Rattle.blocks.specs.Standing.{PredHere}
-use Rattle.constraints.specs.Tests.{predTest, filled, roleTest, rolesTest, groupsTest}
+use Rattle.constraints.specs.Tests.{predTest, filled, roleTest, rolesTest}
 use Rattle.playing.specs.Playing.{populationOf}
 
 -- ---- rows

@@ -1,11 +1,11 @@
 -- K1 to K4 of the type at `ty` in the table, with its block at `at` in the cells.
 use Prim.Native.Nat.{ℕ}
-use mathlib.Core.Path.{_≡_, sym, ap, ap₂, _∙_}
-use mathlib.Core.Bool.{Bool, true, false}
+use mathlib.Core.Path.{_≡_, ap, _∙_}
+use mathlib.Core.Bool.{Bool, true}
 use mathlib.Core.List.{List}
 use lib.Dec.{eqb}
 use lib.ListN.{length, getD, drop}
-use borrow.Author.Tests.{eq-eqb, ne-eqb}
+use borrow.Author.Tests.{ne-eqb}
 use Rattle.counting.specs.Distinct.{all, within, allDiffer}
 use Rattle.orm.specs.Diagram.{ObjectType, Diagram, isRoot}
 use Rattle.orm.specs.Form.{typeOf, _to_, inRange}

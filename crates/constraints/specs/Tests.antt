@@ -1,15 +1,15 @@
 -- The constraints by their numbers, and the tests that they are made of.
 use Prim.Native.Nat.{ℕ, zero, suc}
-use mathlib.Core.Bool.{Bool, true, false, _&&_, _||_}
+use mathlib.Core.Bool.{Bool, true, false, _&&_}
 use mathlib.Core.Option.{Option, none, some}
 use mathlib.Core.List.{List, [], _∷_, _++_, map}
 use lib.Dec.{eqb, leb}
 use Rattle.counting.specs.Lists.{column, combination}
-use Rattle.counting.specs.Distinct.{member, within}
+use Rattle.counting.specs.Distinct.{within}
 use Rattle.orm.specs.Diagram.{ObjectType, Role, Frequency, Predicate, Diagram, isMandatory}
 use Rattle.orm.specs.Sets.{rolesInGroup}
 use Rattle.orm.specs.Population.{Population}
-use Rattle.orm.specs.Constraints.{Answer, valid, breaks, eachType, eachPred, valuesInRoles, allPlayed, membersOf, K1, K2, K3, K4, K5, K6, K7, K8, K9, K10}
+use Rattle.orm.specs.Constraints.{Answer, valid, breaks, eachType, eachPred, membersOf, K1, K2, K3, K4, K5, K6, K7, K8, K9, K10}
 use Rattle.columns.specs.Values.{occurring}
 use Rattle.constraints.specs.declared.Verdict.{Verdict}
 use Rattle.constraints.specs.declared.Verdict.the-variants as verdicts

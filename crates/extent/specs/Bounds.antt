@@ -1,5 +1,5 @@
 -- How many sets a well-formed diagram has at most, how large they are, and how many rounds are made.
-use Prim.Native.Nat.{ℕ, _*_, _-_, _≤_, _<_}
+use Prim.Native.Nat.{ℕ, _*_, _≤_, _<_}
 use native.Mathlib.Decide.{decLt}
 use native.Mathlib.Nat.{mul-suc}
 use native.Mathlib.Omega.{arith}

@@ -2,7 +2,6 @@
 -- 01 lists. 'Every caller sees the same outcome': the definitions of the calls, and what each function above promises, are those without it.
 use Prim.Native.Nat.{ℕ}
 use mathlib.Core.Path.{_≡_}
-use mathlib.Core.List.{List}
 use lib.ListN.{getD}
 use Rattle.counting.specs.Terms.{_∈_, Each}
 use Rattle.orm.specs.Form.{unlimited, ranges}

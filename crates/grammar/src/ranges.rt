@@ -1,8 +1,7 @@
 // The range of each field, case by case as document 01 lists them, and the test of a line by this list.
 use lexer::Kind;
 ghost use mathlib.Core.Path.{_≡_};
-ghost use lib.ListN.{getD};
-ghost use Rattle.orm.specs.Form.{unlimited, ranges, inRange, inRanges};
+ghost use Rattle.orm.specs.Form.{ranges, inRange, inRanges};
 ghost use Rattle.lexer.specs.Cuts.{kindOf};
 ghost use Rattle.grammar.specs.Bounds.{rangeOf};
 ghost use Rattle.grammar.specs.Listed.{HasBounds};

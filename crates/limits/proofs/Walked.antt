@@ -2,23 +2,23 @@
 use Prim.Native.Nat.{ℕ, suc, _+_, _*_, _-_, _≤_, _<_}
 use native.Mathlib.Numerals.{add-one}
 use native.Mathlib.Omega.{arith}
-use mathlib.Core.Path.{_≡_, refl, sym, ap, ap₂, _∙_}
+use mathlib.Core.Path.{_≡_, sym, ap, _∙_}
 use mathlib.Core.Bool.{Bool, not}
-use mathlib.Core.List.{List, [], _∷_, _++_, flatMap, flatten, append-nil, map-append}
+use mathlib.Core.List.{List, [], _∷_, _++_, flatMap, flatten, append-nil}
 use lib.Dec.{eqb}
-use lib.ListN.{length, getD, drop, length-append}
+use lib.ListN.{length, getD, drop}
 use lib.Seq.{drop-drop}
-use Rattle.orm.specs.Diagram.{Role, Predicate, Diagram, isRoot, isIndependent, allRoles}
+use Rattle.orm.specs.Diagram.{Diagram, isRoot, isIndependent, allRoles}
 use Rattle.orm.specs.Form.{typeOf, roleOf, groupOf}
 use Rattle.counting.specs.Lists.{mapFrom}
 use Rattle.fixpoint.specs.Limits.{Limit}
-use Rattle.orm.specs.Sets.{Placed, firstRole, placed, select, rolesOfType, atMost, onlyIf, limitsOfRole, limitsOfGroup, limitOfRows}
+use Rattle.orm.specs.Sets.{Placed, firstRole, placed, rolesOfType, atMost, onlyIf, limitsOfRole, limitsOfGroup, limitOfRows}
 use Rattle.orm.specs.Sets.{limitsOfPred, limitsOfType, limits}
 use Rattle.lowering.specs.Encoding.{encodeExpr, encode}
 use Rattle.buffer.specs.Written.{Wrote, Writing, Splits}
 use Rattle.buffer.specs.Laws.{wrote-then, wrote-as, writing-start}
-use Rattle.table.specs.Positions.{each, typesIn, rolesIn, groupsIn, predsIn, predLength, typeCount, predCount, firstPredAt, diagramOf}
-use Rattle.table.specs.Laws.Walks.{each-more, each-none, each-length, preds-more, preds-none}
+use Rattle.table.specs.Positions.{each, typesIn, rolesIn, groupsIn, typeCount, predCount, diagramOf}
+use Rattle.table.specs.Laws.Walks.{each-more, each-none}
 use Rattle.table.specs.Cursors.{placedAt, placedLeft, firstCursor, nextCursor}
 use Rattle.table.specs.Laws.Cursors.{placed-start, placed-more, placed-none}
 use Rattle.table.specs.declared.Cursor.{Cursor}

@@ -2,4 +2,3 @@
 // definition with the sentence that it states. WellFormed and Meaning say the same of diagrams and
 // populations as propositions. Cases/ holds theorems by computation, the marked cases first; Laws/
 // the laws of single definitions. No code.
-ghost use mathlib.Core.Path.{_≡_};

@@ -1,10 +1,10 @@
 -- Marks: one more, those of a column, of the roles of a predicate, of all predicates; and what they tell in the end.
-use Prim.Native.Nat.{ℕ, zero, suc, _+_, _*_, _-_, _≤_, _<_}
+use Prim.Native.Nat.{ℕ, zero, suc, _+_, _-_, _≤_, _<_}
 use native.Mathlib.Numerals.{add-one}
 use native.Mathlib.Omega.{arith}
 use mathlib.Core.Path.{_≡_, refl, sym, ap, ap₂, subst, _∙_}
 use mathlib.Core.Bool.{Bool, true, false, not, _&&_, _||_, or-assoc, or-true, or-false}
-use mathlib.Core.List.{List, [], _∷_, List·Memᴰ·head as here, List·Memᴰ·tail as there}
+use mathlib.Core.List.{List, [], _∷_, List·Memᴰ·head as here}
 use lib.Dec.{eqb, ltb}
 use lib.ListN.{length, getD, take, drop, set, replicate, List·getD-eq-default}
 use lib.Seq.{getD-set-same, getD-set-other}
@@ -13,7 +13,7 @@ use Rattle.counting.specs.Lists.{column}
 use Rattle.counting.specs.Terms.{_∈_, Each}
 use Rattle.counting.specs.Distinct.{all, member, within}
 use Rattle.counting.specs.Laws.Members.{each-head, each-tail}
-use Rattle.counting.specs.Laws.Distinct.{member-decides, eq-apart}
+use Rattle.counting.specs.Laws.Distinct.{member-decides}
 use Rattle.counting.specs.Laws.Instances.{eqb-decides}
 use Rattle.sorting.specs.Search.{below, below-in, below-apart}
 use Rattle.orm.specs.Form.{roleOf}
@@ -25,7 +25,7 @@ use Rattle.columns.specs.Walks.{spaced-more, spaced-none}
 use Rattle.order.specs.Values.{placeOf, Sortable, Listed}
 use Rattle.order.specs.Parts.{part-is}
 use Rattle.blocks.specs.Blocks.{blockLength, contents, predWidth, rowsAt, rowsIn, behindTypes}
-use Rattle.playing.specs.Playing.{inRole, inRoles, inPreds, playedBy, populationOf, players}
+use Rattle.playing.specs.Playing.{inRole, inRoles, inPreds, players}
 use Rattle.playing.specs.Marks.{marked, allMarked, equalTo, among, amongRole, amongRoles, amongPreds, Markable, Unmarked, Noted, Noting}
 use Rattle.playing.proofs.Searched.{in-roles-start, in-preds-start}
 

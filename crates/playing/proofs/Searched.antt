@@ -1,26 +1,22 @@
 -- K10: a value stands in a role that a type plays, of a predicate, of all predicates; and so does each member of the type.
 use Prim.Native.Nat.{ℕ, suc, _+_, _-_, _≤_, _<_}
 use native.Mathlib.Numerals.{add-one}
-use native.Mathlib.Omega.{arith}
-use mathlib.Core.Path.{_≡_, refl, sym, ap, ap₂, _∙_}
-use mathlib.Core.Bool.{Bool, true, false, not, _&&_, _||_, or-assoc}
+use mathlib.Core.Path.{_≡_, refl, sym, ap, _∙_}
+use mathlib.Core.Bool.{Bool, true, false, _&&_, _||_, or-assoc}
 use mathlib.Core.List.{List, [], _∷_, _++_, flatten, zipWith}
 use lib.Dec.{eqb}
-use lib.ListN.{length, getD, drop}
-use lib.Seq.{drop-drop}
-use borrow.Author.Tests.{eq-eqb, ne-eqb, not-true, not-false}
+use lib.ListN.{getD, drop}
+use borrow.Author.Tests.{eq-eqb, ne-eqb}
 use Rattle.counting.specs.Lists.{mapFrom, column}
-use Rattle.counting.specs.Distinct.{member, within}
-use Rattle.orm.specs.Diagram.{Role, Predicate, Diagram, isIndependent}
-use Rattle.orm.specs.Form.{typeOf, roleOf}
-use Rattle.orm.specs.Population.{Population}
+use Rattle.counting.specs.Distinct.{member}
+use Rattle.orm.specs.Diagram.{Role, Predicate}
+use Rattle.orm.specs.Form.{roleOf}
 use Rattle.orm.specs.Constraints.{Played, played, allPlayed, valuesInRoles, K10}
 use Rattle.table.specs.Positions.{predOf, predLength, predsIn, rolesIn, predCount, firstPredAt, diagramOf}
 use Rattle.table.specs.Laws.Walks.{each-more, each-none, preds-more, preds-none}
 use Rattle.columns.specs.declared.Column.{Column}
-use Rattle.columns.specs.Values.{spaced, valuesIn}
-use Rattle.columns.specs.Walks.{spaced-more, spaced-none}
-use Rattle.blocks.specs.Blocks.{blockLength, contents, predWidth, rowsAt, rowsIn, membersAt, behindTypes, populationAt}
+use Rattle.columns.specs.Values.{valuesIn}
+use Rattle.blocks.specs.Blocks.{blockLength, contents, predWidth, rowsAt, rowsIn, behindTypes, populationAt}
 use Rattle.blocks.specs.Places.{roles-at}
 use Rattle.playing.specs.Playing.{inRole, inRoles, inPreds, playedBy, populationOf}
 

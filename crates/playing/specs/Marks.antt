@@ -9,7 +9,6 @@ use Rattle.counting.specs.Terms.{_∈_}
 use Rattle.counting.specs.Distinct.{all, member}
 use Rattle.orm.specs.Diagram.{Role, Predicate}
 use Rattle.columns.specs.declared.Column.{Column}
-use Rattle.columns.specs.Values.{valuesIn}
 use Rattle.order.specs.Values.{placeOf, Sortable, Listed}
 use Rattle.playing.specs.Playing.{inRole, inRoles, inPreds}
 

@@ -21,7 +21,7 @@ use Rattle.grammar.specs.declared.Fault.the-variants.{Malformed, OutOfRange, Un
 use Rattle.reader.specs.Answer.{conversionOf}
 use Rattle.reader.specs.declared.Conversion.{Conversion}
 use Rattle.reader.specs.declared.Conversion.the-variants as reads
-use Rattle.bounds.specs.Answer.{settlementOf, Answered}
+use Rattle.bounds.specs.Answer.{settlementOf}
 use Rattle.bounds.specs.declared.Settlement.{Settlement}
 use Rattle.bounds.specs.declared.Settlement.the-variants.{Refused, Unsatisfiable, TooShort, Accepted}
 use Rattle.populate.specs.Answer.{cellsOf}

@@ -1,20 +1,19 @@
 -- The columns of a predicate, written one after another.
-use Prim.Native.Nat.{ℕ, zero, suc, _+_, _-_, _≤_, _<_}
+use Prim.Native.Nat.{ℕ, _+_, _-_, _≤_, _<_}
 use native.Mathlib.Numerals.{add-one}
-use native.Mathlib.Omega.{arith}
-use mathlib.Core.Path.{_≡_, refl, sym, ap, ap₂, _∙_}
-use mathlib.Core.List.{List, [], _∷_, _++_, flatten}
-use lib.ListN.{length, getD, drop}
+use mathlib.Core.Path.{_≡_, ap, _∙_}
+use mathlib.Core.List.{List, [], _∷_, flatten}
+use lib.ListN.{getD, drop}
 use lib.Seq.{drop-drop}
 use Rattle.counting.specs.Lists.{mapFrom}
 use Rattle.orm.specs.Diagram.{Role, Diagram}
-use Rattle.orm.specs.Form.{typeOf, roleOf}
-use Rattle.orm.specs.Sets.{firstPred, firstRole}
+use Rattle.orm.specs.Form.{roleOf}
+use Rattle.orm.specs.Sets.{firstRole}
 use Rattle.orm.specs.Populate.{firstValue, takenBefore}
 use Rattle.buffer.specs.Written.{Wrote, Writing, Splits}
 use Rattle.buffer.specs.Laws.{wrote-then, wrote-as, writing-all}
-use Rattle.table.specs.Positions.{rolesIn, typeCount, predCount, firstPredAt, diagramOf}
-use Rattle.table.specs.Laws.Walks.{each-more, each-none, each-length, preds-length}
+use Rattle.table.specs.Positions.{rolesIn}
+use Rattle.table.specs.Laws.Walks.{each-more, each-none}
 use Rattle.table.specs.Cursors.{placedAt}
 use Rattle.table.specs.declared.Cursor.{Cursor}
 use Rattle.population.specs.Plan.{position, played, columnOf}

@@ -13,7 +13,7 @@ use lib.Seq.{drop-cons, length-take-le}
 use Rattle.counting.specs.Lists.{upFrom}
 use Rattle.counting.specs.Laws.Range.{length-upFrom}
 use Rattle.counting.specs.Laws.Maps.{flatMap-append, flatMap-map, flatMap-single}
-use Rattle.orm.specs.Diagram.{Role, Frequency}
+use Rattle.orm.specs.Diagram.{Role}
 use Rattle.orm.specs.Form.{groupOf, roleOf}
 use Rattle.orm.specs.Sets.{Placed, Part, parts, groupPart, rolePart, groupSet, groupRoles, rolesInGroup, select}
 use Rattle.orm.specs.Populate.{size}

@@ -14,7 +14,7 @@ use Rattle.table.specs.declared.Cursor.{Cursor}
 use Rattle.tuples.specs.Steps.{padded, steps, Small}
 use Rattle.tuples.specs.StepsLaws.{padded-front}
 use Rattle.tuples.specs.Nested.{stepsOfEach}
-use Rattle.population.specs.Plan.{order, counts, owns, sizesOf, Wants, Listed, SmallArity, Ordered, Opened, Owned}
+use Rattle.population.specs.Plan.{order, owns, sizesOf, Wants, Listed, SmallArity, Ordered, Opened, Owned}
 use Rattle.population.proofs.PartLaws.{grouped, order-few, parts-few, gathered, gathered-parts, gathered-end}
 
 -- sizes of sets are small

@@ -1,21 +1,15 @@
 -- The roles: their types, how many members are taken before a role, and where a role stands among the parts.
-use Prim.Native.Nat.{ℕ, zero, suc, _+_, _*_, _-_, _≤_, _<_}
+use Prim.Native.Nat.{ℕ, suc, _+_, _≤_, _<_}
 use native.Mathlib.Numerals.{add-one}
 use native.Mathlib.Omega.{arith}
-use mathlib.Core.Path.{_≡_, refl, sym, ap, ap₂, _∙_}
+use mathlib.Core.Path.{_≡_, refl, sym, ap, _∙_}
 use mathlib.Core.Bool.{Bool, true, false, _&&_}
-use mathlib.Core.List.{List, [], _∷_, _++_, map, map-append, flatMap}
+use mathlib.Core.List.{List, [], _∷_}
 use borrow.Author.Tests.{eq-eqb, ne-eqb}
 use lib.Dec.{eqb}
 use lib.ListN.{length, getD, drop, drop-of-length-le}
-use lib.Seq.{drop-drop, drop-cons}
-use Rattle.orm.specs.Diagram.{Role, Predicate, allRoles}
-use Rattle.orm.specs.Form.{roleOf}
+use lib.Seq.{drop-cons}
 use Rattle.orm.specs.Populate.{size, takenBefore}
-use Rattle.buffer.specs.Written.{Writing, Splits}
-use Rattle.buffer.specs.Laws.{writing-start}
-use Rattle.table.specs.Positions.{rolesIn, predsIn, predLength, predCount, firstPredAt, diagramOf}
-use Rattle.table.specs.Laws.Walks.{each-more, each-none, preds-more, preds-none}
 use Rattle.population.specs.Plan.{position, played, share}
 
 -- ---- members taken before a role

@@ -1,23 +1,21 @@
 -- The row that is made from what is prepared is the row of the definition.
-use Prim.Native.Nat.{ℕ, zero, suc, _+_, _*_, _-_, _%_, _≤_, _<_}
+use Prim.Native.Nat.{ℕ, suc, _+_, _*_, _%_}
 use native.Mathlib.Omega.{arith}
 use mathlib.Core.Path.{_≡_, refl, sym, ap, ap₂, _∙_}
 use mathlib.Core.Bool.{Bool, true, false}
-use mathlib.Core.List.{List, [], _∷_, _++_, map, map-map, map-append, flatMap, flatten, zipWith, append-nil}
+use mathlib.Core.List.{List, [], _∷_, _++_, map, map-append, flatMap, flatten, zipWith, append-nil}
 use lib.Dec.{eqb}
-use lib.ListN.{length, getD, drop, length-append, length-map}
-use Rattle.counting.specs.Lists.{upFrom, mapFrom}
+use lib.ListN.{length, getD, length-append, length-map}
+use Rattle.counting.specs.Lists.{mapFrom}
 use Rattle.counting.specs.Laws.Maps.{map-congr}
 use Rattle.orm.specs.Diagram.{Role, Diagram, index, allRoles}
 use Rattle.orm.specs.Sets.{Placed, Part, parts, select, rolesOfType, firstRole}
-use Rattle.orm.specs.Population.{cellsOfPred}
-use Rattle.orm.specs.Populate.{size, firstValue, takenBefore, partTuple, partsOfRow, lookup, indexInRow, memberOf, row, rows}
-use Rattle.pairing.specs.Pairing.{tuples}
+use Rattle.orm.specs.Populate.{size, firstValue, takenBefore, partTuple, partsOfRow, lookup, indexInRow, memberOf, row}
 use Rattle.table.specs.Positions.{each}
 use Rattle.tuples.specs.Steps.{steps, tupleIn}
 use Rattle.tuples.specs.StepsLaws.{length-tupleIn, steps-row}
 use Rattle.tuples.specs.Nested.{stepsOfEach, tuplesIn, each-steps, each-row, length-steps}
-use Rattle.population.specs.Plan.{order, counts, owns, sizesOf, position, played, columnOf, cellOf, rowBy}
+use Rattle.population.specs.Plan.{order, counts, owns, sizesOf, position, played, cellOf, rowBy}
 use Rattle.population.proofs.ColumnLaws.{columnsFrom}
 
 -- ---- looking up a role

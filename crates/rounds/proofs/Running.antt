@@ -1,6 +1,6 @@
 -- Rounds lower the sizes, so that a run ends, and each turn of the loop is a step of `run`.
-use mathlib.Core.Path.{_≡_, refl, sym, ap, _∙_, subst, subst⁻¹}
-use mathlib.Core.Bool.{Bool, true, false}
+use mathlib.Core.Path.{_≡_, refl, sym, ap, _∙_, subst}
+use mathlib.Core.Bool.{true, false}
 use mathlib.Core.Option.{Option, none, some}
 use mathlib.Core.List.{List, [], _∷_}
 use Prim.Native.Nat.{ℕ, zero, suc, _+_, _*_, _-_, _≤_, _<_}
@@ -17,7 +17,6 @@ use Rattle.counting.specs.Lists.{same}
 use Rattle.counting.specs.Laws.Distinct.{apart-of-false}
 use Rattle.counting.specs.Laws.Instances.{same-decides}
 use Rattle.fixpoint.specs.Limits.{Limit, Verdict, unsatisfiable, fixpoint, round, upperAfter, firstBelow, slack, runFrom, run}
-use Rattle.fixpoint.specs.Notions.{_≼_}
 use Rattle.fixpoint.specs.Laws.Round.{round-≼}
 use Rattle.fixpoint.specs.Laws.Tests.{Found, firstBelow-found, slack-less}
 use Rattle.buffer.specs.Written.{Wrote}
@@ -25,7 +24,7 @@ use Rattle.buffer.specs.Laws.{wrote-whole, wrote-end, wrote-front, wrote-within
 use Rattle.lowering.specs.Sizes.{Small}
 use Rattle.lowering.specs.Encoding.{decode}
 use Rattle.lowering.specs.Closed.{Closed}
-use Rattle.dependents.specs.Dependents.{Due, Room, Linked, Linking, Below, differing}
+use Rattle.dependents.specs.Dependents.{Room, Linked, Linking, Below, differing}
 use Rattle.dependents.specs.Laws.Differing.{differing-below, differing-long, none-differ}
 use Rattle.rounds.specs.declared.Lowest.{Lowest}
 use Rattle.rounds.specs.declared.Lowest.the-variants.{At, Nowhere}

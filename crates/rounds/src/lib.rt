@@ -2,7 +2,7 @@
 // or nothing changes. Limits stand in a slice of numbers, as specs/Encoding.antt of lowering says.
 ghost use mathlib.Core.Path.{_≡_};
 ghost use mathlib.Core.Option.{none};
-ghost use Prim.Native.Nat.{_-_, _≤_};
+ghost use Prim.Native.Nat.{_-_};
 ghost use lib.ListN.{length};
 ghost use Rattle.fixpoint.specs.Limits.{upperAfter, firstBelow, run};
 ghost use Rattle.lowering.specs.Encoding.{decode};

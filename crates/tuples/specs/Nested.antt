@@ -1,5 +1,5 @@
 -- Several pairings side by side: the steps of all of them one after another, and one row of each.
-use Prim.Native.Nat.{ℕ, zero, _+_, _*_, _-_, min, _≤_, _<_}
+use Prim.Native.Nat.{ℕ, _+_, _*_, min, _≤_, _<_}
 use native.Mathlib.Numerals.{add-one}
 use native.Mathlib.Omega.{arith}
 use mathlib.Core.Path.{_≡_, refl, ap, ap₂, _∙_}

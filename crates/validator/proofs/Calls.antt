@@ -3,9 +3,8 @@ use Prim.Native.Nat.{ℕ}
 use native.Mathlib.Omega.{arith}
 use mathlib.Core.Path.{_≡_, refl, sym, ap, _∙_}
 use mathlib.Core.List.{List}
-use Rattle.orm.specs.Diagram.{Diagram, Totals, totals}
+use Rattle.orm.specs.Diagram.{Diagram}
 use Rattle.orm.specs.Text.{tableLine}
-use Rattle.orm.specs.Population.{Population}
 use Rattle.orm.specs.Constraints.{Answer, answer}
 use Rattle.orm.specs.Outcome.{Outcome, refused, accepted, _>>=_}
 use Rattle.orm.specs.Calls.{diagramIn, populationIn, validateCall}

@@ -1,6 +1,6 @@
 -- `constraints::first_broken` meets its contract. The first of the constraints left is the first of all.
 -- Assumes nothing.
-use Prim.Native.Nat.{_+_, _≤_}
+use Prim.Native.Nat.{_+_}
 use mathlib.Core.Path.{_≡_}
 use Rattle.table.specs.Positions.{diagramOf}
 use Rattle.constraints.proofs.Lowest.{ConstraintsLeft, constraints-start, none-broken, first-is, none-here}

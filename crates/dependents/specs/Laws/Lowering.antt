@@ -11,12 +11,11 @@ use Rattle.fixpoint.specs.Limits.{Limit, valueOf, lowered, round}
 use Rattle.fixpoint.specs.Notions.{_≼_}
 use Rattle.fixpoint.specs.Laws.Order.{≼-refl, ≼-trans, ≼-antisym}
 use Rattle.fixpoint.specs.Laws.Round.{le-lowered, le-round, round-≼, round-target}
-use Rattle.lowering.specs.Sizes.{Small}
 use Rattle.lowering.specs.Encoding.{limitAt, decode}
-use Rattle.lowering.specs.Closed.{Start, Closed}
+use Rattle.lowering.specs.Closed.{Start}
 use Rattle.lowering.specs.Laws.Lowered.{length-lowered, lowered-below}
-use Rattle.dependents.specs.Dependents.{Operand, Lowering, Done, Served, Used, Due}
-use Rattle.dependents.specs.Laws.Starts.{Starts, in-starts, start-in, operand-room}
+use Rattle.dependents.specs.Dependents.{Lowering, Done, Served, Due}
+use Rattle.dependents.specs.Laws.Starts.{Starts, in-starts, start-in}
 use Rattle.dependents.specs.Laws.Values.{Differs, value-or}
 use Rattle.dependents.specs.Laws.Differing.{Listed, differing-lists}
 

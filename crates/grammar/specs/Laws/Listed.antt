@@ -8,13 +8,12 @@ use Rattle.counting.specs.Terms.{_∈_, Each}
 use Rattle.counting.specs.Laws.Members.{each-nil, each-cons, in-flatten}
 use Rattle.orm.specs.Diagram.{LineKind, diagramLine, typesLine, typeLine, predsLine, predLine, roleLine, freqLine, endLine}
 use Rattle.orm.specs.Form.{Range, _to_, unlimited, ranges}
-use Rattle.orm.specs.Cases.Ranges.{Field, field, fieldsFrom, rangedFields, documentRanges, ranged-fields}
-use Rattle.lexer.specs.declared.Kind.{Kind}
+use Rattle.orm.specs.Cases.Ranges.{Field, field, fieldsFrom, rangedFields, ranged-fields}
 use Rattle.lexer.specs.Cuts.{kindOf}
 use Rattle.grammar.specs.declared.ranges.Bounds.{Bounds}
 use Rattle.grammar.specs.declared.ranges.Bounds.the-variants.{Between, NoRange}
 use Rattle.grammar.specs.Bounds.{rangeOf}
-use Rattle.grammar.specs.Listed.{HasBounds, Gives, RangesListed}
+use Rattle.grammar.specs.Listed.{Gives, RangesListed}
 
 between : (r : Bounds) {low high : ℕ} → rangeOf r ≡ low to high → r ≡ Between low high
 between (Between a b) e = cc

@@ -1,10 +1,9 @@
 -- How much room the limits of a well-formed diagram take.
-use Prim.Native.Nat.{ℕ, suc, _+_, _*_, _-_, _≤_}
+use Prim.Native.Nat.{ℕ, suc, _+_, _*_, _≤_}
 use native.Mathlib.Nat.{mul-suc}
 use native.Mathlib.Omega.{arith}
 use mathlib.Core.Path.{_≡_, refl, ap, _∙_}
 use mathlib.Core.Bool.{Bool, true, false, not}
-use lib.Dec.{eqb}
 use mathlib.Core.List.{List, [], _∷_, _++_, map, flatMap, flatten, List·Memᴰ·head as here, List·Memᴰ·tail as there}
 use lib.ListN.{length, length-append, length-map}
 use Rattle.orm.specs.Diagram.{ObjectType, Role, Frequency, Predicate, Diagram, isRoot, isIndependent, isMandatory, isGrouped, index}

@@ -1,17 +1,15 @@
 -- Of the cells of a population of the diagram's shape, what is printed is document 01's report.
 use Prim.Native.Nat.{ℕ, zero, suc, _+_, _*_}
 use native.Mathlib.Omega.{arith}
-use native.Mathlib.Nat.{add-assoc, zero-add, suc-mul}
-use native.Mathlib.Numerals.{add-one}
 use mathlib.Core.Path.{_≡_, refl, sym, ap, ap₂, _∙_}
-use mathlib.Core.List.{List, [], _∷_, _++_, map, flatMap, flatten, append-assoc, append-nil}
-use lib.ListN.{length, getD, take, drop, length-append}
-use lib.Seq.{drop-drop, take-append-seam, drop-append-seam, drop-at}
+use mathlib.Core.List.{List, [], _∷_, _++_, flatMap, flatten, append-assoc, append-nil}
+use lib.ListN.{length, getD, drop}
+use lib.Seq.{drop-drop, drop-at}
 use Rattle.counting.specs.Lists.{mapFrom}
 use Rattle.counting.specs.Terms.{Each, Each2}
 use Rattle.counting.specs.Laws.Members.{each-head, each-tail}
 use Rattle.orm.specs.Diagram.{Predicate, Diagram}
-use Rattle.orm.specs.Text.{bytes, lineText, valuesText}
+use Rattle.orm.specs.Text.{bytes, lineText}
 use Rattle.orm.specs.Population.{Population, cellsOfType, cellsOfPred, cells}
 use Rattle.orm.specs.Meaning.{Rows, Shaped}
 use Rattle.orm.specs.Program.{predText, report}

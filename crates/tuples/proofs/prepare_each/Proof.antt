@@ -1,6 +1,6 @@
 -- `tuples::prepare_each` meets its contract. The steps of the pairings left come to the whole.
 -- Assumes nothing.
-use Prim.Native.Nat.{_+_, _*_, _-_, _≤_}
+use Prim.Native.Nat.{_*_, _-_, _≤_}
 use lib.ListN.{length, drop}
 use Rattle.buffer.specs.Written.{Writing}
 use Rattle.buffer.specs.Laws.{writing-start, writing-more, writing-all, writing-long}

@@ -1,6 +1,5 @@
 -- `limits::ranges::pred_uppers` meets its contract. The bounds of the predicates left come to the whole.
 -- Assumes nothing.
-use Prim.Native.Nat.{_+_, _*_, _≤_}
 use mathlib.Core.List.{map}
 use lib.ListN.{drop}
 use Rattle.orm.specs.Diagram.{Predicate}

@@ -10,8 +10,11 @@ ghost use Rattle.orm.specs.Calls.{readCall, checkCall, populateCall, validateCa
 ghost use Rattle.grammar.specs.Fault.{numberOf};
 ghost use Rattle.reader.specs.Answer.{conversionOf};
 ghost use Rattle.bounds.specs.Answer.{settlementOf};
+ghost use Rattle.populate.specs.Answer.{cellsOf};
+ghost use Rattle.populate.specs.Demand3.{settledSizes};
 ghost use Rattle.validator.specs.Outcomes.{validateOf};
 ghost use Rattle.capi.specs.Answers.{numbers, roundless, verdictNumbers};
+ghost use Rattle.capi.specs.Told.{Told, ToldRead};
 
 fn of_size(x: usize) -> u64
     ensures { λ r. ⌜ r ≡ x ⌝ }
@@ -88,6 +91,7 @@ fn store_validate(answer: &mut [u64; 4], outcome: validator::ValidateAnswer)
 pub extern "C" fn legshorgan_read(text: &[u8], table: &mut [u32], answer: &mut [u64; 4])
     ensures { λ _. ⌜ now (answer .exit) ≡ numbers (roundless (lengthOf (readCall (now (text .entry)) (length (now (table .entry)))))) ⌝ }
     ensures { λ _. ⌜ now (table .exit) ≡ bufferAfter (readCall (now (text .entry)) (length (now (table .entry)))) (now (table .entry)) ⌝ }
+    ensures { λ _. ⌜ ToldRead (now (text .entry)) (now (answer .exit)) (now (table .entry)) (now (table .exit)) ⌝ }
 {
     let outcome = reader::read(text, table);
     store_conversion(answer, outcome);
@@ -98,6 +102,7 @@ pub extern "C" fn legshorgan_read(text: &[u8], table: &mut [u32], answer: &mut [
 pub extern "C" fn legshorgan_check(table: &[u32], sizes: &mut [u32], answer: &mut [u64; 4])
     ensures { λ _. ⌜ now (answer .exit) ≡ numbers (handedBack (checkCall (now (table .entry)) (length (now (sizes .entry))))) ⌝ }
     ensures { λ _. ⌜ now (sizes .exit) ≡ bufferAfter (written (checkCall (now (table .entry)) (length (now (sizes .entry))))) (now (sizes .entry)) ⌝ }
+    ensures { λ _. ⌜ Told (now (table .entry)) settledSizes (now (answer .exit)) (now (sizes .entry)) (now (sizes .exit)) ⌝ }
 {
     let outcome = bounds::check(table, sizes);
     store_settlement(answer, outcome);
@@ -108,6 +113,7 @@ pub extern "C" fn legshorgan_check(table: &[u32], sizes: &mut [u32], answer: &mu
 pub extern "C" fn legshorgan_populate(table: &[u32], cells: &mut [u32], answer: &mut [u64; 4])
     ensures { λ _. ⌜ now (answer .exit) ≡ numbers (handedBack (populateCall (now (table .entry)) (length (now (cells .entry))))) ⌝ }
     ensures { λ _. ⌜ now (cells .exit) ≡ bufferAfter (written (populateCall (now (table .entry)) (length (now (cells .entry))))) (now (cells .entry)) ⌝ }
+    ensures { λ _. ⌜ Told (now (table .entry)) cellsOf (now (answer .exit)) (now (cells .entry)) (now (cells .exit)) ⌝ }
 {
     let outcome = populate::populate(table, cells);
     store_settlement(answer, outcome);

@@ -10,7 +10,7 @@ push-role-spec =
     tie.close
     (tie.spec
     (λ c κs. search needs)
-    (λ c. search (needs, push-not))
+    (λ c. (search (needs, push-not), (search needs, search needs)))
     (λ c. search needs)
     (λ c. search needs)
     (λ c. search needs)

@@ -11,7 +11,7 @@ count-row-cells-spec =
     (tie.spec
     (λ c κs. search needs)
     (λ c κs. search needs)
-    (λ c κs. search needs)
+    (λ c κs. (search needs, search needs))
     (λ c κs. search needs)
     (λ c. search (needs, cells-fit))
     (λ c. search (needs, row-cells, row-cells-few)))

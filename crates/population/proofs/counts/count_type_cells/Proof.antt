@@ -23,7 +23,7 @@ count-type-cells-spec =
     Inv-loop
     μ-loop
     (λ c κs. search needs)
-    (λ c. search (needs, types-counted))
+    (λ c. (search needs, search needs, search (needs, types-counted)))
     (λ c κs. search needs)
     (λ c κs. search needs)
     (λ c. search needs)
@@ -31,5 +31,5 @@ count-type-cells-spec =
     (λ c. search needs)
     (λ c. search needs)
     (λ c. search needs)
-    (λ c. search (needs, type-counted))
-    (λ c. search (needs, counted-all, types-none)))
+    (λ c. (search needs, search needs, search (needs, type-counted)))
+    (λ c. (search (needs, counted-all, types-none), search needs)))

@@ -9,8 +9,8 @@ pub part-sizes-spec : {M : Type 1} → statement M
 part-sizes-spec =
     tie.close
     (tie.spec
-    (λ c κs. search needs)
-    (λ c κs. search needs)
+    (λ c κs. (search needs, search needs))
+    (λ c κs. (search needs, search needs))
     (λ c κs. search needs)
     (λ c. search needs)
     (λ c. search (needs, part-sizes-is)))

@@ -10,7 +10,7 @@ push-counts-spec =
     tie.close
     (tie.spec
     (λ c κs. search needs)
-    (λ c κs. search needs)
+    (λ c κs. (search needs, search needs))
     (λ c κs. search needs)
     (λ c κs. search needs)
     (λ c. search needs)

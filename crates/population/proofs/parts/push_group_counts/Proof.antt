@@ -25,13 +25,13 @@ push-group-counts-spec =
     (tie.spec
     Inv-loop
     μ-loop
-    (λ c κs. search needs)
-    (λ c. search (needs, group-counts-start))
+    (λ c κs. (search needs, search needs))
+    (λ c. (search needs, search (needs, group-counts-start)))
     (λ c κs. search needs)
     (λ c κs. search needs)
     (λ c. search needs)
     (λ c. search needs)
     (λ c. search needs)
-    (λ c. search (needs, writing-more, group-counts-more))
+    (λ c. (search needs, search (needs, writing-more, group-counts-more)))
     (λ c. search (needs, writing-long))
     (λ c. search (needs, writing-all, group-counts-none)))

@@ -23,12 +23,12 @@ push-grouped-spec =
     (tie.spec
     Inv-loop
     μ-loop
+    (λ c κs. (search needs, search needs))
+    (λ c. (search needs, search (needs, grouped-start)))
     (λ c κs. search needs)
-    (λ c. search (needs, grouped-start))
-    (λ c κs. search needs)
     (λ c. search needs)
     (λ c. search needs)
     (λ c. search needs)
-    (λ c. search (needs, writing-more, grouped-more))
+    (λ c. (search needs, search (needs, writing-more, grouped-more)))
     (λ c. search (needs, writing-long))
     (λ c. search (needs, writing-all, grouped-none)))

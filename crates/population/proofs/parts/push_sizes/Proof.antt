@@ -29,6 +29,6 @@ push-sizes-spec =
     (λ c κs. search needs)
     (λ c. search needs)
     (λ c. search needs)
-    (λ c. search (needs, writing-more, sizes-more))
+    (λ c. (search needs, search (needs, writing-more, sizes-more)))
     (λ c. search (needs, writing-long))
     (λ c. search (needs, writing-all, sizes-none)))

@@ -29,6 +29,6 @@ push-sizes-up-spec =
     (λ c. search needs)
     (λ c. search needs)
     (λ c. search needs)
-    (λ c. search (needs, writing-more, sizes-up-more))
+    (λ c. (search needs, search (needs, writing-more, sizes-up-more)))
     (λ c. search (needs, writing-long))
     (λ c. search (needs, writing-all, sizes-up-none)))

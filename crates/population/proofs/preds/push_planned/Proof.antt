@@ -10,7 +10,7 @@ push-planned-spec =
     tie.close
     (tie.spec
     (λ c κs. search needs)
-    (λ c κs. search needs)
+    (λ c κs. (search needs, search needs))
     (λ c κs. search needs)
     (λ c κs. (search (needs, complete-planned), search needs))
     (λ c. search needs)

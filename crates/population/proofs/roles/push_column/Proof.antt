@@ -9,7 +9,7 @@ pub push-column-spec : {M : Type 1} → statement M
 push-column-spec =
     tie.close
     (tie.spec
-    (λ c κs. search needs)
+    (λ c κs. (search needs, search needs))
     (λ c κs. search needs)
     (λ c κs. search needs)
     (λ c κs. search needs)

@@ -24,14 +24,14 @@ push-columns-spec =
     (tie.spec
     Inv-loop
     μ-loop
-    (λ c κs. search needs)
+    (λ c κs. (search needs, search needs))
     (λ c. search needs)
-    (λ c. search (needs, writing-start))
+    (λ c. (search needs, search needs, search (needs, writing-start)))
     (λ c κs. (search needs, (search needs, (search needs, search needs))))
     (λ c. search needs)
     (λ c. search needs)
     (λ c. search needs)
     (λ c. search needs)
-    (λ c. search (needs, writing-more, columns-more))
+    (λ c. (search needs, search needs, search (needs, writing-more, columns-more)))
     (λ c. search (needs, writing-long))
     (λ c. search (needs, columns-all)))

@@ -9,10 +9,10 @@ pub cell-spec : {M : Type 1} → statement M
 cell-spec =
     tie.close
     (tie.spec
-    (λ c κs. search needs)
-    (λ c κs. search needs)
-    (λ c κs. search needs)
-    (λ c κs. search needs)
+    (λ c κs. (search needs, search needs))
+    (λ c κs. (search needs, search needs))
+    (λ c κs. (search needs, search needs))
+    (λ c κs. (search needs, search needs))
     (λ c κs. search needs)
     (λ c. search needs)
     (λ c κs. search needs)

@@ -26,11 +26,11 @@ push-cells-spec =
     Inv-loop
     μ-loop
     (λ c. search (needs, writing-start))
+    (λ c κs. (search needs, (search needs, search needs)))
     (λ c κs. search needs)
-    (λ c κs. search needs)
     (λ c. search needs)
     (λ c. search needs)
     (λ c. search needs)
-    (λ c. search (needs, writing-more, row-more))
+    (λ c. (search needs, search (needs, writing-more, row-more)))
     (λ c. search (needs, writing-long))
     (λ c. search (needs, writing-all, row-none)))

@@ -27,7 +27,7 @@ store-cells-spec =
     Inv-loop
     μ-loop
     (λ c. (search needs, search needs, search (needs, writing-start)))
-    (λ c κs. search needs)
+    (λ c κs. (search needs, (search needs, search needs)))
     (λ c κs. search needs)
     (λ c. search needs)
     (λ c. search needs)

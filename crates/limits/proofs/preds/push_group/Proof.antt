@@ -10,10 +10,10 @@ push-group-spec =
     tie.close
     (tie.spec
     (λ c κs. search needs)
+    (λ c κs. (search needs, search needs))
     (λ c κs. search needs)
+    (λ c κs. (search needs, search needs))
     (λ c κs. search needs)
-    (λ c κs. search needs)
-    (λ c κs. search needs)
-    (λ c κs. search needs)
+    (λ c κs. (search needs, (search needs, search needs)))
     (λ c. search needs)
     (λ c. search (needs, group-is)))

@@ -27,18 +27,18 @@ push-group-limits-spec =
     (tie.spec
     Inv-loop
     μ-loop
-    (λ c κs. search needs)
-    (λ c κs. search needs)
+    (λ c κs. (search needs, search needs))
+    (λ c κs. (search needs, search needs))
     (λ c κs. search needs)
     (λ c. search needs)
     (λ c. search needs)
     (λ c. search needs)
-    (λ c. search (needs, groups-start))
+    (λ c. (search needs, search needs, search (needs, groups-start)))
     (λ c κs. (search needs, (search needs, (search needs, search needs))))
     (λ c. search needs)
     (λ c. search needs)
     (λ c. search needs)
     (λ c. search needs)
-    (λ c. search (needs, writing-more, groups-more))
+    (λ c. (search needs, search needs, search (needs, writing-more, groups-more)))
     (λ c. search (needs, writing-long))
     (λ c. search (needs, writing-all, items-none)))

@@ -9,11 +9,11 @@ pub push-role-spec : {M : Type 1} → statement M
 push-role-spec =
     tie.close
     (tie.spec
+    (λ c κs. (search needs, search needs))
     (λ c κs. search needs)
+    (λ c κs. (search needs, search needs))
     (λ c κs. search needs)
-    (λ c κs. search needs)
-    (λ c κs. search needs)
-    (λ c κs. search needs)
+    (λ c κs. (search needs, search needs))
     (λ c κs. search needs)
     (λ c κs. search needs)
     (λ c κs. search needs)

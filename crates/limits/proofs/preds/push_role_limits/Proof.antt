@@ -27,14 +27,14 @@ push-role-limits-spec =
     (tie.spec
     Inv-loop
     μ-loop
-    (λ c κs. search needs)
+    (λ c κs. (search needs, search needs))
     (λ c. search needs)
-    (λ c. search (needs, roles-start))
-    (λ c κs. search needs)
-    (λ c. search needs)
-    (λ c. search needs)
+    (λ c. (search needs, search needs, search (needs, roles-start)))
+    (λ c κs. (search needs, (search needs, search needs)))
     (λ c. search needs)
     (λ c. search needs)
-    (λ c. search (needs, writing-more, roles-more))
+    (λ c. search needs)
+    (λ c. search needs)
+    (λ c. (search needs, search needs, search (needs, writing-more, roles-more)))
     (λ c. search (needs, writing-long))
     (λ c. search (needs, writing-all, items-none)))

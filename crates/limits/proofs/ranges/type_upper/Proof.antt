@@ -9,11 +9,11 @@ pub type-upper-spec : {M : Type 1} → statement M
 type-upper-spec =
     tie.close
     (tie.spec
-    (λ c κs. search needs)
-    (λ c κs. search needs)
+    (λ c κs. (search needs, search needs))
+    (λ c κs. (search needs, search needs))
     (λ c. search (needs, upper-subtype))
-    (λ c κs. search needs)
-    (λ c κs. search needs)
+    (λ c κs. (search needs, search needs))
+    (λ c κs. (search needs, search needs))
     (λ c κs. search needs)
     (λ c. search (needs, upper-values))
     (λ c. search (needs, upper-most)))

@@ -26,12 +26,12 @@ type-uppers-spec =
     Inv-loop
     μ-loop
     (λ c κs. search needs)
-    (λ c. search (needs, types-start))
+    (λ c. (search needs, search (needs, types-start)))
+    (λ c κs. (search needs, search needs))
     (λ c κs. search needs)
-    (λ c κs. search needs)
     (λ c. search needs)
     (λ c. search needs)
     (λ c. search needs)
-    (λ c. search (needs, writing-more, types-more))
+    (λ c. (search needs, search (needs, writing-more, types-more)))
     (λ c. search (needs, writing-long))
     (λ c. search (needs, writing-all, types-none)))

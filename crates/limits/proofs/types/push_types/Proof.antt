@@ -24,12 +24,12 @@ push-types-spec =
     Inv-loop
     μ-loop
     (λ c κs. search needs)
-    (λ c. search (needs, types-start))
+    (λ c. (search needs, search needs, search (needs, types-start)))
     (λ c κs. (search needs, (search needs, search needs)))
     (λ c. search needs)
     (λ c. search needs)
     (λ c. search needs)
     (λ c. search needs)
-    (λ c. search (needs, writing-more, types-more))
+    (λ c. (search needs, search needs, search (needs, writing-more, types-more)))
     (λ c. search (needs, writing-long))
     (λ c. search (needs, writing-all, items-none)))

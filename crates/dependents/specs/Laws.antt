@@ -2,5 +2,6 @@
 pub mod Starts
 pub mod Differing
 pub mod Building
+pub mod Unique
 pub mod Values
 pub mod Lowering

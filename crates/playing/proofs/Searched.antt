@@ -9,9 +9,10 @@ use lib.ListN.{getD, drop}
 use borrow.Author.Tests.{eq-eqb, ne-eqb}
 use Rattle.counting.specs.Lists.{mapFrom, column}
 use Rattle.counting.specs.Distinct.{member}
+use Rattle.counting.specs.Laws.Distinct.{member-append}
 use Rattle.orm.specs.Diagram.{Role, Predicate}
 use Rattle.orm.specs.Form.{roleOf}
-use Rattle.orm.specs.Constraints.{Played, played, allPlayed, valuesInRoles, K10}
+use Rattle.orm.specs.Constraints.{Played, played, allPlayed, valuesInRoles}
 use Rattle.table.specs.Positions.{predOf, predLength, predsIn, rolesIn, predCount, firstPredAt, diagramOf}
 use Rattle.table.specs.Laws.Walks.{each-more, each-none, preds-more, preds-none}
 use Rattle.columns.specs.declared.Column.{Column}
@@ -61,11 +62,6 @@ in-roles-start t x number rows pred e = ap (λ (rs : List Role). inRoles x numbe
 
 -- ---- the definition, role by role
 
-member-append : (x : ℕ) (xs ys : List ℕ) → member eqb x (xs ++ ys) ≡ (member eqb x xs || member eqb x ys)
-unfolding member
-member-append x [] ys = refl
-member-append x (y ∷ xs) ys = ap (λ (b : Bool). eqb x y || b) (member-append x xs ys) ∙ sym (or-assoc (eqb x y) (member eqb x xs) (member eqb x ys))
-
 plays-cons : (x number : ℕ) (y : Played) (l : List Played)
     → member eqb x (valuesInRoles number (y ∷ l)) ≡ (inRole x number (y .role) (y .values) || member eqb x (valuesInRoles number l))
 unfolding valuesInRoles inRole
@@ -73,7 +69,7 @@ plays-cons x number y l = go (eqb (y .role .type) number)
   where
     go : (b : Bool) → member eqb x (elim b [ true ↦ y .values ++ valuesInRoles number l | false ↦ valuesInRoles number l ])
         ≡ (b && member eqb x (y .values) || member eqb x (valuesInRoles number l))
-    go true = member-append x (y .values) (valuesInRoles number l)
+    go true = member-append eqb x (y .values) (valuesInRoles number l)
     go false = refl
 
 module _ (x number : ℕ) where

@@ -2,7 +2,7 @@
 use Prim.Native.Nat.{ℕ, suc, _+_, _≤_, zero-le, suc-le-suc}
 use mathlib.Core.Path.{_≡_, refl, sym, ap, _∙_}
 use mathlib.Core.Logic.{_↔_, Iff·trans, Iff·symm, Iff·and, Iff·not, eq-comm, _⊎_, inl, inr, ⊎-elim}
-use mathlib.Core.Bool.{Bool, true, false, _||_, or-true, false≢true, and-eq-true-iff}
+use mathlib.Core.Bool.{Bool, true, false, _||_, or-true, or-assoc, false≢true, and-eq-true-iff}
 use mathlib.Mathlib.Data.Bool.Basic.{not-iff-not, bool-iff-false}
 use mathlib.Core.List.{List, [], _∷_, _++_, map, List·Memᴰ·head as here, List·Memᴰ·tail as there, Memᴰ·cast, Memᴰ·map, List·Memᴰ·not-nil}
 use native.Mathlib.Nat.{add-zero, suc-inj}
@@ -81,6 +81,11 @@ module _ {A : Type 0} (eq : A → A → Bool) where
   unfolding occurrences
   occurrences-append a [] ys = omega arith
   occurrences-append a (x ∷ xs) ys = omega (arith, occurrences-cons a x (xs ++ ys), occurrences-cons a x xs, occurrences-append a xs ys)
+
+  pub member-append : (a : A) (xs ys : List A) → member eq a (xs ++ ys) ≡ (member eq a xs || member eq a ys)
+  unfolding member
+  member-append a [] ys = refl
+  member-append a (x ∷ xs) ys = ap (λ (b : Bool). eq a x || b) (member-append a xs ys) ∙ sym (or-assoc (eq a x) (member eq a xs) (member eq a ys))
 
 module _ {A : Type 0} {eq : A → A → Bool} (decides : Decides eq) where
   member-in : (a : A) (xs : List A) → member eq a xs ≡ true → a ∈ xs

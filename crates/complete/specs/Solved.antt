@@ -1,6 +1,6 @@
 -- Sizes of a diagram's sets that respect its bounds and limits, and what each limit says of them.
 use Prim.Native.Nat.{ℕ, suc, _+_, _*_, _/_, _≤_, _<_}
-use mathlib.Core.Path.{_≡_, refl, sym, ap, _∙_}
+use mathlib.Core.Path.{_≡_, refl, sym, _∙_}
 use mathlib.Core.Logic.{⊎-elim}
 use mathlib.Core.Bool.{Bool, true, not}
 use mathlib.Core.List.{List, [], _∷_, _++_, map, flatMap, flatten, List·Memᴰ·head as here, List·Memᴰ·tail as there, List·Memᴰ·append-cases, Memᴰ·append-left, Memᴰ·append-right, Memᴰ·of-map}
@@ -16,10 +16,12 @@ use Rattle.counting.specs.Terms.{_∈_}
 use Rattle.counting.specs.Totals.{productOver, sumOver}
 use Rattle.fixpoint.specs.Limits.{Limit, valueOf}
 use Rattle.fixpoint.specs.Notions.{_≼_, Holds, Satisfies}
-use Rattle.orm.specs.Diagram.{Diagram, Frequency, ObjectType, Predicate, Role, allGroups, allRoles, index, isGrouped, isIndependent, isMandatory, isRoot}
+use Rattle.orm.specs.Diagram.{Diagram, Frequency, ObjectType, Predicate, Role, allGroups, allRoles, index, isGrouped, isMandatory, isRoot}
 use Rattle.orm.specs.Populate.{size}
 use Rattle.orm.specs.Sets.{Part, Placed, atMost, firstGroup, firstPred, firstRole, groupRoles, groupSet, limitOfRows, limits, limitsOfGroup, limitsOfPred, limitsOfRole, limitsOfType, lower, onlyIf, parts, placed, rolesOfType, upper, upperOfType}
+use Rattle.orm.specs.Meaning.{MustPlay}
 use Rattle.orm.specs.WellFormed.{PredForm, TypeForm, WellFormed}
+use Rattle.orm.specs.Laws.Decided.{mustPlay-decides}
 use Rattle.complete.specs.Place.{group-sets, groupSets, placed-at, role-sets, roleSets}
 
 -- The sizes `c` are between the bounds of a well-formed diagram and satisfy its limits
@@ -44,6 +46,20 @@ module _ (f : ObjectType → ℕ) (g : Predicate → ℕ) (n : ℕ) (d : Diagram
       rw (← length-map (d .types) f)
       (at-getD {A = ℕ} 0 (at-append-left (map (λ (q : Frequency). n) (allGroups d))
       (at-append-left (map (λ (r : Role). n) (allRoles d)) (at-append-right (map f (d .types)) (at-map g h)))))
+
+pub lower-type : (d : Diagram) {a : ℕ} {t : ObjectType} → At t (d .types) a → getD (lower d) a 0 ≡ t .min
+unfolding lower
+lower-type d h = bounds-type (λ t. t .min) (λ p. p .min) 1 d h
+
+pub upper-type : (d : Diagram) {a : ℕ} {t : ObjectType} → At t (d .types) a → getD (upper d) a 0 ≡ upperOfType t
+unfolding upper
+upper-type d h = bounds-type upperOfType (λ p. p .max) 4096 d h
+
+-- a type's limits are among the diagram's
+pub type-limit-in : (d : Diagram) {a : ℕ} {t : ObjectType} {l : Limit} → At t (d .types) a → l ∈ limitsOfType d a t → l ∈ limits d
+unfolding limits
+type-limit-in d {a} h m =
+    Memᴰ·append-right (flatMap limitsOfPred (placed d)) (in-flatten (at-in (at-mapFrom (limitsOfType d) 0 h refl)) (rw (zero-add a) m))
 
 pub group-set : (x : Placed) (k : ℕ) → groupSet x (1 + k) ≡ x .groups + k
 unfolding groupSet
@@ -86,30 +102,25 @@ module _ {d : Diagram} {c : List ℕ} (s : Solved d c) where
   positive i h = le-trans (lower-positive _ (getD-in (lower d) i 0 (rw (s .above .sized) h))) (s .above .entry i)
 
   pub type-least : {a : ℕ} {t : ObjectType} → At t (d .types) a → t .min ≤ size c a
-  unfolding lower
-  type-least {a} h = rw (bounds-type (λ t. t .min) (λ p. p .min) 1 d h) at (s .above .entry a)
+  type-least {a} h = rw (lower-type d h) at (s .above .entry a)
 
   pub type-most : {a : ℕ} {t : ObjectType} → At t (d .types) a → size c a ≤ upperOfType t
-  unfolding upper
-  type-most {a} h = rw (bounds-type upperOfType (λ p. p .max) 4096 d h) at (s .below .entry a)
+  type-most {a} h = rw (upper-type d h) at (s .below .entry a)
 
   -- ---- limits of a type
 
   type-limit : {a : ℕ} {t : ObjectType} (l : Limit) → At t (d .types) a → l ∈ limitsOfType d a t → Holds c l
-  unfolding limits
-  type-limit {a} l h m =
-      s .satisfied l (Memᴰ·append-right (flatMap limitsOfPred (placed d))
-      (in-flatten (at-in (at-mapFrom (limitsOfType d) 0 h refl)) (rw (zero-add a) m)))
+  type-limit l h m = s .satisfied l (type-limit-in d h m)
 
   pub type-super : {a : ℕ} {t : ObjectType} → At t (d .types) a → ¬ (t .super ≡ 0) → size c a ≤ size c (index (t .super))
   unfolding limitsOfType isRoot atMost valueOf productOver
   type-super {a} {t} h n =
       rw mul-one at (type-limit (atMost a (index (t .super))) h (Memᴰ·append-left _ (in-onlyIf _ _ (rw (ne-eqb (t .super) 0 n)))))
 
-  pub type-sum : {a : ℕ} {t : ObjectType} → At t (d .types) a → ¬ (t .indep ≡ 1) → size c a ≤ sumOver (size c) (rolesOfType d (suc a))
-  unfolding limitsOfType isIndependent valueOf
+  pub type-sum : {a : ℕ} {t : ObjectType} → At t (d .types) a → MustPlay d (suc a) t → size c a ≤ sumOver (size c) (rolesOfType d (suc a))
+  unfolding limitsOfType valueOf
   type-sum {a} {t} h n =
-      type-limit _ h (Memᴰ·append-right (onlyIf (not (isRoot t)) (atMost a (index (t .super)))) (in-onlyIf _ _ (ap not (ne-eqb (t .indep) 1 n))))
+      type-limit _ h (Memᴰ·append-right (onlyIf (not (isRoot t)) (atMost a (index (t .super)))) (in-onlyIf _ _ (mustPlay-decides d (suc a) t .1 n)))
 
   -- ---- bounds and limits of a predicate
 

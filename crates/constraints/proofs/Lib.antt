@@ -1,5 +1,5 @@
 pub mod Types
 pub mod Preds
 pub mod Groups
-pub mod Independent
+pub mod Players
 pub mod Lowest

@@ -1,10 +1,11 @@
 // The constraints K1 to K10 of the population in some cells, and the lowest that is broken.
 use columns::Column;
+use selection::players::must_play;
+use selection::players::plays;
 ghost use mathlib.Core.Path.{_≡_};
 ghost use Prim.Native.Nat.{_+_, _*_, _≤_, _<_};
 ghost use lib.Dec.{eqb};
 ghost use lib.ListN.{length, take, drop};
-ghost use Rattle.counting.specs.Lists.{column};
 ghost use Rattle.counting.specs.Distinct.{within};
 ghost use Rattle.orm.specs.Form.{typeOf, roleOf, groupOf};
 ghost use Rattle.orm.specs.Sets.{rolesInGroup};
@@ -256,13 +257,13 @@ fn pred_keeps(k: u32, t: &[u32], cells: &[u32], pred: usize, at: usize) -> bool
     }
 }
 
-// K10: of a type that is not independent, each member is in a role that the type plays.
+// K10: of a type that must play, each member is in a role that the type plays.
 fn members_play(t: &[u32], cells: &[u32], ty: usize, at: usize, number: u32) -> bool
     requires { ⌜ Walkable (now t) ⌝ }
     requires { ⌜ Populated (now t) (now cells) ⌝ }
     ensures { λ r. ⌜ r ≡ K10 (diagramOf (now (t .entry))) (populationOf (now (t .entry)) (now (cells .entry))) number (typeOf (drop ty (now (t .entry)))) (membersAt (drop at (now (cells .entry)))) ⌝ }
 {
-    if table::field(t, ty, 5) == 1 {
+    if !must_play(t, ty, number, plays(t, number)) {
         return true;
     }
     playing::all_in_preds(t, cells, blocks::members(cells, at), number)

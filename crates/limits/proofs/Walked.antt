@@ -3,12 +3,12 @@ use Prim.Native.Nat.{ℕ, suc, _+_, _*_, _-_, _≤_, _<_}
 use native.Mathlib.Numerals.{add-one}
 use native.Mathlib.Omega.{arith}
 use mathlib.Core.Path.{_≡_, sym, ap, _∙_}
-use mathlib.Core.Bool.{Bool, not}
+use mathlib.Core.Bool.{Bool, true, false, not}
 use mathlib.Core.List.{List, [], _∷_, _++_, flatMap, flatten, append-nil}
-use lib.Dec.{eqb}
+use lib.Dec.{ltb, eqb}
 use lib.ListN.{length, getD, drop}
 use lib.Seq.{drop-drop}
-use Rattle.orm.specs.Diagram.{Diagram, isRoot, isIndependent, allRoles}
+use Rattle.orm.specs.Diagram.{Diagram, isRoot, plays, mustPlay, index, allRoles}
 use Rattle.orm.specs.Form.{typeOf, roleOf, groupOf}
 use Rattle.counting.specs.Lists.{mapFrom}
 use Rattle.fixpoint.specs.Limits.{Limit}
@@ -25,6 +25,7 @@ use Rattle.table.specs.declared.Cursor.{Cursor}
 use Rattle.selection.specs.Selected.{positions, Types}
 use Rattle.limits.specs.Single.{limitOfTypes, Played}
 use Rattle.selection.specs.Laws.Selects.{positions-select, positions-length}
+use Rattle.selection.specs.Laws.Players.{counted-plays}
 use Rattle.lowering.specs.Laws.Decoding.{encode-append}
 
 -- ---- the limits of each line, numbered from `i`
@@ -121,24 +122,39 @@ unfolding rolesOfType
 played-is t types first a w =
     rw (w .known .are, w .starts) (positions-select (suc a) (firstRole (diagramOf t)) (allRoles (diagramOf t)))
 
-module _ (types : List ℕ) (first a : ℕ) {o o₁ o₂ : List ℕ} {at b c : ℕ} where
-  pub sum-is : {n number : ℕ} → number ≡ a + 1 → n ≡ length (positions number 0 types) → Wrote o at (1 ∷ a ∷ 0 ∷ n ∷ []) o₁ b
-      → Wrote o₁ b (positions number first types) o₂ c → Wrote o at (encode (limitOfTypes types first a ∷ [])) o₂ c
-  unfolding encode encodeExpr
-  sum-is {n} {number} e en w v =
-      let e′ : number ≡ suc a = e ∙ add-one a in
-      let ps : List ℕ = positions (suc a) first types in
-      wrote-as (wrote-then w v) (rw (en, positions-length number 0 first types, e′) (sym (append-nil (1 ∷ a ∷ 0 ∷ length ps ∷ ps))))
+pub own-plays : (t types : List ℕ) (first number : ℕ) {own : ℕ} → Played t types first → own ≡ length (positions number 0 types)
+    → ltb 0 own ≡ plays number (allRoles (diagramOf t))
+own-plays t types first number w e = counted-plays t types number (w .known) e
 
-  pub type-is : (t s : List ℕ) {super indep set : ℕ} {subtype dependent : Bool} → Played t types first → super ≡ getD s 4 0 → set ≡ super - 1
-      → subtype ≡ not (eqb super 0) → indep ≡ getD s 5 0 → dependent ≡ not (eqb indep 1)
-      → Wrote o at (encode (onlyIf subtype (atMost a set))) o₁ b → Wrote o₁ b (encode (onlyIf dependent (limitOfTypes types first a))) o₂ c
-      → Wrote o at (encode (limitsOfType (diagramOf t) a (typeOf s))) o₂ c
-  unfolding limitsOfType isRoot isIndependent
-  type-is t s {super} {indep} {set} {subtype} {dependent} p es eset eb ei eo w v =
+module _ (types : List ℕ) (first a : ℕ) {o o₁ o₂ : List ℕ} {at b c : ℕ} where
+  pub sum-is : {own : ℕ} → own ≡ length (positions (a + 1) 0 types) → Wrote o at (1 ∷ a ∷ 0 ∷ own ∷ []) o₁ b
+      → Wrote o₁ b (positions (a + 1) first types) o₂ c → Wrote o at (encode (limitOfTypes types first a ∷ [])) o₂ c
+  unfolding encode encodeExpr
+  sum-is {own} e w v =
+      let ps : List ℕ = positions (suc a) first types in
+      wrote-as (wrote-then w v) (rw (e, positions-length (a + 1) 0 first types, add-one) (sym (append-nil (1 ∷ a ∷ 0 ∷ length ps ∷ ps))))
+
+-- the limits of a type whose supertype's limit is written: `held` says whether it must play
+module _ (t s : List ℕ) (a : ℕ) {super set : ℕ} {subtype held : Bool} {o o₁ : List ℕ} {at b : ℕ} (es : super ≡ getD s 4 0) (eset : set ≡ super - 1)
+    (eb : subtype ≡ not (eqb super 0)) (eh : held ≡ mustPlay (diagramOf t) (a + 1) (typeOf s))
+    (w : Wrote o at (encode (onlyIf subtype (atMost a set))) o₁ b) where
+  below-super : onlyIf subtype (atMost a set) ≡ onlyIf (not (isRoot (typeOf s))) (atMost a (index (typeOf s .super)))
+  unfolding isRoot
+  below-super = rw (eb, eset, es)
+
+  must : mustPlay (diagramOf t) (suc a) (typeOf s) ≡ held
+  must = rw add-one at (sym eh)
+
+  pub type-held : (types : List ℕ) (first : ℕ) {o₂ : List ℕ} {c : ℕ} → Played t types first → held ≡ true
+      → Wrote o₁ b (encode (limitOfTypes types first a ∷ [])) o₂ c → Wrote o at (encode (limitsOfType (diagramOf t) a (typeOf s))) o₂ c
+  unfolding limitsOfType onlyIf
+  type-held types first p e v =
       wrote-as (wrote-then w v)
-      (sym (encode-append (onlyIf subtype (atMost a set)) (onlyIf dependent (limitOfTypes types first a)))
-      ∙ rw (played-is t types first a p, eb, eo, eset, es, ei))
+      (sym (encode-append (onlyIf subtype (atMost a set)) (limitOfTypes types first a ∷ [])) ∙ rw (below-super, played-is t types first a p, must, e))
+
+  pub type-free : held ≡ false → Wrote o at (encode (limitsOfType (diagramOf t) a (typeOf s))) o₁ b
+  unfolding limitsOfType onlyIf
+  type-free e = wrote-as w (rw (below-super, must, e, append-nil))
 
 module _ (t : List ℕ) where
   pub types-start : (o : List ℕ) (at : ℕ) {n : ℕ} → n ≡ typeCount t

@@ -1,41 +1,30 @@
 // The limits of the types.
 use crate::single::header;
 use crate::single::push_at_most_if;
+use selection::players::must_play;
+ghost use mathlib.Core.Path.{_≡_};
 ghost use mathlib.Core.List.{[], _∷_, flatten};
 ghost use Prim.Native.Nat.{_+_, _≤_};
 ghost use lib.ListN.{length, drop};
 ghost use Rattle.counting.specs.Lists.{mapFrom};
 ghost use Rattle.orm.specs.Form.{typeOf};
-ghost use Rattle.orm.specs.Sets.{onlyIf};
 ghost use Rattle.orm.specs.Sets.{limitsOfType};
 ghost use Rattle.lowering.specs.Encoding.{encode};
 ghost use Rattle.buffer.specs.Written.{Wrote};
 ghost use Rattle.table.specs.Positions.{diagramOf, Walkable};
+ghost use Rattle.selection.specs.Selected.{positions};
 ghost use Rattle.limits.specs.Single.{limitOfTypes, Played};
 
-// The sum of the roles that the type with the set a plays, as its limit; `types` are those of all
+// The sum of the `own` roles that the type with the set a plays, as its limit; `types` are those of all
 // roles, and `first` is the first role's set.
-fn push_sum(types: &[u32], first: u32, a: u32, out: &mut [u32], at: usize) -> usize
+fn push_sum(types: &[u32], first: u32, a: u32, own: u32, out: &mut [u32], at: usize) -> usize
     requires { ⌜ first + length (now types) ≤ 160 ⌝ }
     requires { ⌜ a ≤ 32 ⌝ }
+    requires { ⌜ own ≡ length (positions (a + 1) 0 (now types)) ⌝ }
     ensures { λ r. ⌜ Wrote (now (out .entry)) at (encode (limitOfTypes (now (types .entry)) first a ∷ [])) (now (out .exit)) r ⌝ }
 {
-    let number = a + 1;
-    let b = header(out, at, 1, a, 0, selection::count_of_type(types, number));
-    selection::push_of_type(types, number, first, out, b)
-}
-
-fn push_sum_if(types: &[u32], first: u32, yes: bool, a: u32, out: &mut [u32], at: usize) -> usize
-    requires { ⌜ first + length (now types) ≤ 160 ⌝ }
-    requires { ⌜ a ≤ 32 ⌝ }
-    ensures { λ r.
-        ⌜ Wrote (now (out .entry)) at (encode (onlyIf yes (limitOfTypes (now (types .entry)) first a))) (now (out .exit)) r ⌝ }
-{
-    if yes {
-        push_sum(types, first, a, out, at)
-    } else {
-        at
-    }
+    let b = header(out, at, 1, a, 0, own);
+    selection::push_of_type(types, a + 1, first, out, b)
 }
 
 // The limits of the type at position q, whose set is a.
@@ -64,14 +53,11 @@ fn push_type(
         a,
         selection::less_one(super_type),
     );
-    push_sum_if(
-        types,
-        first,
-        selection::differ(table::number(t, q, 5), 1),
-        a,
-        out,
-        b,
-    )
+    let own = selection::count_of_type(types, a + 1);
+    if must_play(t, q, a + 1, 0 < own) {
+        return push_sum(types, first, a, own, out, b);
+    }
+    b
 }
 
 pub fn push_types(t: &[u32], types: &[u32], first: u32, out: &mut [u32], at: usize) -> usize

@@ -7,6 +7,7 @@ pub mod Ranges
 pub mod Sample
 pub mod Buffers
 pub mod Limits
+pub mod Subtypes
 pub mod Several
 pub mod Broken
 pub mod Lines

@@ -7,7 +7,7 @@ use lib.Dec.{eqb}
 use lib.ListN.{length, getD}
 use Rattle.counting.specs.Lists.{mapFrom, same, column, combination}
 use Rattle.counting.specs.Distinct.{all, distinct, occurrences, allDiffer, within}
-use Rattle.orm.specs.Diagram.{ObjectType, Role, Frequency, Predicate, Diagram, isRoot, isIndependent, isMandatory, index}
+use Rattle.orm.specs.Diagram.{ObjectType, Role, Frequency, Predicate, Diagram, isRoot, isMandatory, mustPlay, index}
 use Rattle.orm.specs.Form.{_to_, inRange}
 use Rattle.orm.specs.Sets.{rolesInGroup}
 use Rattle.orm.specs.Population.{Population}
@@ -115,9 +115,10 @@ K9 p rows =
     all (λ (x : Grouped). all (held x) (x .combinations)) (grouped p rows)
 
 module _ (d : Diagram) (o : Population) where
-  -- 'each member of a non-independent type is in a role that type plays'
+  -- 'each member of a non-independent type is in a role that type plays', but 'a non-independent subtype that plays no role is free .. of K10'
+  -- (document 02, S-2)
   unfoldable pub K10 : ℕ → ObjectType → List ℕ → Bool
-  K10 number t vs = elim (isIndependent t) [ true ↦ true | false ↦ within eqb vs (valuesInRoles number (allPlayed d o)) ]
+  K10 number t vs = elim (mustPlay d number t) [ true ↦ within eqb vs (valuesInRoles number (allPlayed d o)) | false ↦ true ]
 
   -- Whether each type or predicate keeps K1, K2 and so on to K10: 'a type's for K1 to K4 and K10, a predicate's for K5 to K9'
   unfoldable pub constraints : List (List Bool)

@@ -1,9 +1,10 @@
 -- A diagram and its lines in file order (document 01, 'The diagram file').
 use Prim.Native.Nat.{ℕ, _-_}
-use mathlib.Core.Bool.{Bool, not}
+use mathlib.Core.Bool.{Bool, not, _&&_, _||_}
 use mathlib.Core.List.{List, [], _∷_, _++_, map, flatMap}
 use lib.Dec.{eqb}
 use lib.ListN.{length}
+use Rattle.counting.specs.Distinct.{member}
 
 -- `type=MIN,MAX,FIRST,LAST,SUPER,INDEP`
 pub record ObjectType : Type 0 where
@@ -62,6 +63,15 @@ allRoles d = flatMap (λ (p : Predicate). p .roles) (d .preds)
 
 unfoldable pub allGroups : Diagram → List Frequency
 allGroups d = flatMap (λ (p : Predicate). p .groups) (d .preds)
+
+-- Whether the type with this number plays one of these roles: TYPE is that very type, and none above or below it
+unfoldable pub plays : ℕ → List Role → Bool
+plays number rs = member eqb number (map (λ (r : Role). r .type) rs)
+
+-- Whether each member of the type with this number must be in a role that the type plays: it is not independent, and 'a non-independent subtype that
+-- plays no role is free' (document 02, S-2)
+unfoldable pub mustPlay : Diagram → ℕ → ObjectType → Bool
+mustPlay d number t = not (isIndependent t) && (isRoot t || plays number (allRoles d))
 
 -- How many types, predicates, roles and groups a diagram has: what reading a table hands back
 pub record Totals : Type 0 where

@@ -1,8 +1,10 @@
 -- The laws of single definitions, by subject; laws of the whole stand in the crates above.
 pub mod Readers
 pub mod Select
+pub mod Limits
 pub mod Shape
 pub mod Decided
+pub mod Named
 pub mod Cells
 pub mod Bounds
 pub mod Rounds

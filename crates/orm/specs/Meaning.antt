@@ -2,12 +2,13 @@
 -- (document 01, 'Constraints of a population').
 use Prim.Native.Nat.{ℕ, suc, _≤_}
 use mathlib.Core.Path.{_≡_}
+use mathlib.Core.Logic.{_⊎_}
 use mathlib.Core.List.{List, [], _∷_}
 use lib.ListN.{length}
 use Rattle.counting.specs.Lists.{same}
 use Rattle.counting.specs.Distinct.{occurrences}
 use Rattle.counting.specs.Terms.{_∈_, _⊆_, Each, Each2, NoRepeats}
-use Rattle.orm.specs.Diagram.{ObjectType, Predicate, Diagram}
+use Rattle.orm.specs.Diagram.{ObjectType, Role, Predicate, Diagram, allRoles}
 use Rattle.orm.specs.Population.{Population, cells}
 use Rattle.orm.specs.Constraints.{Played, Grouped, played, grouped, allPlayed, membersOf}
 
@@ -74,9 +75,18 @@ M9 p rows =
 abbrev pub InRoleOf : ℕ → List Played → ℕ → Type 0
 InRoleOf number l v = (x : Played) × (x ∈ l) × (x .role .type ≡ number) × (v ∈ x .values)
 
--- K10 'each member of a non-independent type is in a role that type plays'
+-- The type with this number plays one of these roles
+abbrev pub Plays : ℕ → List Role → Type 0
+Plays number rs = (r : Role) × (r ∈ rs) × (r .type ≡ number)
+
+-- Each member of the type with this number must be in a role that the type plays: it is not independent, and not a 'subtype that plays no role'
+-- (document 02, S-2)
+abbrev pub MustPlay : Diagram → ℕ → ObjectType → Type 0
+MustPlay d number t = (¬ (t .indep ≡ 1)) × ((t .super ≡ 0) ⊎ Plays number (allRoles d))
+
+-- K10 'each member of a non-independent type is in a role that type plays', of a type that must play
 abbrev pub M10 : Diagram → Population → ℕ → ObjectType → List ℕ → Type 0
-M10 d o number t vs = ¬ (t .indep ≡ 1) → (v : ℕ) → v ∈ vs → InRoleOf number (allPlayed d o) v
+M10 d o number t vs = MustPlay d number t → (v : ℕ) → v ∈ vs → InRoleOf number (allPlayed d o) v
 
 -- ---- the population
 

@@ -7,7 +7,7 @@ use lib.Dec.{eqb}
 use lib.ListN.{length}
 use Rattle.counting.specs.Lists.{upFrom, mapFrom}
 use Rattle.fixpoint.specs.Limits.{Limit, product, sum, times, quotient, Verdict, run, upperAfter, slack}
-use Rattle.orm.specs.Diagram.{ObjectType, Role, Frequency, Predicate, Diagram, isRoot, isIndependent, isMandatory, isGrouped, index, allRoles, allGroups}
+use Rattle.orm.specs.Diagram.{ObjectType, Role, Frequency, Predicate, Diagram, isRoot, isMandatory, isGrouped, mustPlay, index, allRoles, allGroups}
 
 -- 'Sets count from 1: types, predicates, roles, groups, each in file order'
 unfoldable pub firstPred : Diagram → ℕ
@@ -126,11 +126,12 @@ limitsOfPred x =
     ++ flatten (mapFrom (limitsOfGroup x) 1 (x .predicate .groups))
     ++ limitOfRows x ∷ []
 
--- 'subtype: a at most its supertype's; not independent: a at most the sum of the roles it plays itself, 0 if it plays none'
+-- 'subtype: a at most its supertype's; not independent: a at most the sum of the roles it plays itself, 0 if it plays none', but 'a
+-- non-independent subtype that plays no role is free of the sum limit' (document 02, S-2)
 unfoldable pub limitsOfType : Diagram → ℕ → ObjectType → List Limit
 limitsOfType d a t =
     onlyIf (not (isRoot t)) (atMost a (index (t .super)))
-    ++ onlyIf (not (isIndependent t)) (record { target = a; most = sum (rolesOfType d (suc a)) })
+    ++ onlyIf (mustPlay d (suc a) t) (record { target = a; most = sum (rolesOfType d (suc a)) })
 
 -- All of them; their order shows nowhere (`RoundLaws.exact`)
 unfoldable pub limits : Diagram → List Limit

@@ -1,3 +1,4 @@
 -- The laws of loops over roles.
 pub mod Selects
 pub mod Types
+pub mod Players

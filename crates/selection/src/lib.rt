@@ -1,5 +1,7 @@
 // The roles of a valid table that are of one type, or in one group: their sets, and how many they are.
 // Each function that writes does so from the index `at` on and answers the index behind.
+pub mod players;
+
 ghost use mathlib.Core.Path.{_≡_};
 ghost use mathlib.Core.Bool.{not};
 ghost use Prim.Native.Nat.{_+_, _*_, _-_, _≤_, _<_};

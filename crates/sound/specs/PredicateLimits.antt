@@ -31,7 +31,8 @@ use Rattle.orm.specs.WellFormed.{WellFormed, PredForm, RoleForm, GroupForm}
 use Rattle.orm.specs.Laws.Select.{of-select, in-select, select-from}
 use Rattle.sound.specs.Each.{each-pred}
 use Rattle.sound.specs.Counts.{columnSize, combinationSize, product-le, combination-agree, column-le-rows, column-le-combination, combination-le-product, combination-le-column}
-use Rattle.sound.specs.Satisfied.{each-only-if, at-most}
+use Rattle.orm.specs.Laws.Limits.{each-only-if}
+use Rattle.sound.specs.Satisfied.{at-most}
 use Rattle.sound.specs.Positions.{played-at, grouped-at, Located, Found, size-of-type, members-differ}
 
 -- ---- the columns of a predicate's parts

@@ -18,17 +18,18 @@ use Rattle.counting.specs.Laws.Instances.{eqb-decides}
 use Rattle.counting.specs.Laws.Index.{At, at-below, below-at, each-from-at}
 use Rattle.fixpoint.specs.Limits.{valueOf}
 use Rattle.fixpoint.specs.Notions.{Holds, Satisfies}
-use Rattle.orm.specs.Diagram.{ObjectType, Role, Diagram, index, isRoot, isIndependent}
+use Rattle.orm.specs.Diagram.{ObjectType, Role, Diagram, index, isRoot}
 use Rattle.orm.specs.Sets.{firstRole, select, rolesOfType, limitsOfType}
 use Rattle.orm.specs.Population.{Population}
 use Rattle.orm.specs.Constraints.{Played, allPlayed, valuesInRoles, membersOf, sizes}
-use Rattle.orm.specs.Meaning.{Between, M1, M4, M10, EachType, Meets, Shaped}
-use Rattle.orm.specs.Laws.Decided.{in-roles}
+use Rattle.orm.specs.Meaning.{Between, MustPlay, M1, M4, M10, EachType, Meets, Shaped}
+use Rattle.orm.specs.Laws.Decided.{mustPlay-decides, in-roles}
 use Rattle.orm.specs.WellFormed.{WellFormed, TypeForm}
 use Rattle.sound.specs.Each.{each-type}
 use Rattle.sound.specs.Segments.{Segment, size-at, head-size, tail}
 use Rattle.sound.specs.Positions.{playedSize, roles-played, types-segment, roles-segment, size-of-type}
-use Rattle.sound.specs.Satisfied.{each-only-if, at-most}
+use Rattle.orm.specs.Laws.Limits.{each-only-if}
+use Rattle.sound.specs.Satisfied.{at-most}
 
 -- The values in some roles are at most the sum of these roles' sizes
 values-le-sum : (c : List ℕ) (number i : ℕ) (xs : List Played) → Segment playedSize c i xs
@@ -84,16 +85,16 @@ module _ (d : Diagram) (o : Population) (form : WellFormed d) (shaped : Shaped d
             (constraint (M4 o) (meets .k4) n),
       )
 
-  type-le-roles : ¬ (t .indep ≡ 1) → getD c a 0 ≤ sumOver (λ s. getD c s 0) (rolesOfType d (suc a))
+  type-le-roles : MustPlay d (suc a) t → getD c a 0 ≤ sumOver (λ s. getD c s 0) (rolesOfType d (suc a))
   unfolding rolesOfType
   type-le-roles n =
       let in-role : vs ⊆ valuesInRoles (suc a) (allPlayed d o) =
-      λ v m. in-roles (suc a) v (allPlayed d o) .1 (rw (one-add a) at (constraint (M10 d o) (meets .k10) n v m)) in
+      λ v m. in-roles (suc a) v (allPlayed d o) .1 ((rw (one-add a) at (constraint (M10 d o) (meets .k10))) n v m) in
       let h = rw (roles-played d o shaped) at (values-le-sum c (suc a) (firstRole d) (allPlayed d o) (roles-segment d o shaped)) in
       omega (arith, size-of-own, no-repeats-le-distinct eqb-decides vs (valuesInRoles (suc a) (allPlayed d o)) differ in-role, h)
 
   pub type-limits : Satisfies (limitsOfType d a t) c
-  unfolding limitsOfType isRoot isIndependent valueOf
+  unfolding limitsOfType isRoot valueOf
   type-limits = each-append (Holds c) _ _
       (each-only-if (Holds c) _ (λ e. at-most c _ _ (subtype-le-supertype (eqb-false (t .super) 0 (not-true _ e)))))
-      (each-only-if (Holds c) _ (λ e. type-le-roles (eqb-false (t .indep) 1 (not-true _ e))))
+      (each-only-if (Holds c) _ (λ e. type-le-roles (mustPlay-decides d (suc a) t .0 e)))

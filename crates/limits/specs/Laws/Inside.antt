@@ -2,8 +2,7 @@
 use Prim.Native.Nat.{ℕ, suc, _+_, _≤_, _<_}
 use native.Mathlib.Nat.{zero-add}
 use native.Mathlib.Omega.{arith}
-use mathlib.Core.Path.{_≡_, refl}
-use mathlib.Core.Bool.{Bool, true, false, not}
+use mathlib.Core.Bool.{Bool, not}
 use mathlib.Core.List.{List, [], _∷_, flatMap, flatten}
 use lib.ListN.{length, length-append}
 use borrow.Author.Tests.{eqb-false, not-true}
@@ -14,11 +13,12 @@ use Rattle.counting.specs.Laws.Members.{each-nil, each-cons, each-head, each-ta
 use Rattle.counting.specs.Laws.Range.{of-upFrom}
 use Rattle.fixpoint.specs.Limits.{Limit}
 use Rattle.lowering.specs.Closed.{Inside, operandsOf}
-use Rattle.orm.specs.Diagram.{ObjectType, Role, Frequency, Predicate, Diagram, isRoot, isIndependent, isMandatory, isGrouped, index}
+use Rattle.orm.specs.Diagram.{ObjectType, Role, Frequency, Predicate, Diagram, isRoot, mustPlay, isMandatory, isGrouped, index}
 use Rattle.orm.specs.Diagram.{allRoles, allGroups}
+use Rattle.orm.specs.Laws.Limits.{each-only-if}
 use Rattle.orm.specs.Laws.Select.{of-select}
 use Rattle.orm.specs.Sets.{firstPred, firstRole, firstGroup, upper, select, rolesOfType, rolesInGroup, Placed, placedFrom, placed}
-use Rattle.orm.specs.Sets.{groupSet, groupRoles, Part, groupPart, rolePart, parts, atMost, onlyIf, limitsOfRole, limitsOfGroup}
+use Rattle.orm.specs.Sets.{groupSet, groupRoles, Part, groupPart, rolePart, parts, atMost, limitsOfRole, limitsOfGroup}
 use Rattle.orm.specs.Sets.{limitOfRows, limitsOfPred, limitsOfType, limits}
 use Rattle.orm.specs.WellFormed.{TypeForm, PredForm, WellFormed}
 use Rattle.orm.specs.Laws.Bounds.{length-upper}
@@ -29,11 +29,6 @@ module _ {n : ℕ} where
   inside-atMost : {s t : ℕ} → s < n → t < n → Inside n (atMost s t)
   unfolding atMost operandsOf
   inside-atMost h k = record { target = h; operands = each-cons _ k (each-nil _) }
-
-  each-onlyIf : (b : Bool) {l : Limit} → (b ≡ true → Inside n l) → Each (Inside n) (onlyIf b l)
-  unfolding onlyIf
-  each-onlyIf true h = each-cons _ (h refl) (each-nil _)
-  each-onlyIf false h = each-nil _
 
   each-items : {A : Type 0} (g : ℕ → A → List Limit) (i : ℕ) (xs : List A) → ((k : ℕ) (a : A) → At a xs k → Each (Inside n) (g (i + k) a))
       → Each (Inside n) (flatten (mapFrom g i xs))
@@ -71,8 +66,8 @@ module _ {n types : ℕ} {x : Placed} (f : Fits n types x) where
       each-cons _ (inside-atMost own player)
       (each-cons _ (inside-atMost own (f .own))
       (each-append _ _ _
-      (each-onlyIf _ (λ e. inside-atMost own (group-below (r .group) (omega (arith, eqb-false (r .group) 0 (not-true _ e))) (g .group))))
-      (each-onlyIf (isMandatory r) (λ _. inside-atMost player own))))
+      (each-only-if _ _ (λ e. inside-atMost own (group-below (r .group) (omega (arith, eqb-false (r .group) 0 (not-true _ e))) (g .group))))
+      (each-only-if _ (isMandatory r) (λ _. inside-atMost player own))))
 
   group-inside : (k : ℕ) (q : Frequency) → At q (x .predicate .groups) k → Each (Inside n) (limitsOfGroup x (1 + k) q)
   unfolding limitsOfGroup operandsOf
@@ -124,8 +119,8 @@ module _ (d : Diagram) (w : WellFormed d) where
       let e = length-upper d in
       let own : a < length (upper d) = omega (arith, e, at-below m) in
       let super : index (t .super) < length (upper d) = omega (arith, each-from-at TypeForm 1 (w .types) m .above) in
-      each-append _ _ _ (each-onlyIf (not (isRoot t)) (λ _. inside-atMost own super))
-      (each-onlyIf (not (isIndependent t))
+      each-append _ _ _ (each-only-if _ (not (isRoot t)) (λ _. inside-atMost own super))
+      (each-only-if _ (mustPlay d (suc a) t)
       (λ _. record { target = own; operands = select-below _ (firstRole d) (allRoles d) (omega arith) }))
 
   all-fit : Each (Fits (length (upper d)) (length (d .types))) (placed d)

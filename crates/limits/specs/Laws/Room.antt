@@ -6,7 +6,7 @@ use mathlib.Core.Path.{_≡_, refl, ap, _∙_}
 use mathlib.Core.Bool.{Bool, true, false, not}
 use mathlib.Core.List.{List, [], _∷_, _++_, map, flatMap, flatten, List·Memᴰ·head as here, List·Memᴰ·tail as there}
 use lib.ListN.{length, length-append, length-map}
-use Rattle.orm.specs.Diagram.{ObjectType, Role, Frequency, Predicate, Diagram, isRoot, isIndependent, isMandatory, isGrouped, index}
+use Rattle.orm.specs.Diagram.{ObjectType, Role, Frequency, Predicate, Diagram, isRoot, mustPlay, isMandatory, isGrouped, index}
 use Rattle.orm.specs.Diagram.{allRoles, allGroups, table}
 use Rattle.counting.specs.Lists.{upFrom, mapFrom}
 use Rattle.fixpoint.specs.Limits.{Limit, product, sum}
@@ -148,13 +148,13 @@ module _ (d : Diagram) (w : WellFormed d) where
   size-type a t =
       let ss : List Limit = onlyIf (not (isRoot t)) (atMost a (index (t .super))) in
       let played : Limit = record { target = a; most = sum (rolesOfType d (suc a)) } in
-      let ps : List Limit = onlyIf (not (isIndependent t)) played in
+      let ps : List Limit = onlyIf (mustPlay d (suc a) t) played in
       let one : size (played ∷ []) ≤ 4 + length (rolesOfType d (suc a)) = omega (arith, size-sum a (rolesOfType d (suc a)) [], size-none) in
       omega (
         arith,
         size-append ss ps,
         size-only-if (not (isRoot t)) _ (size-one a (index (t .super))),
-        size-only-if (not (isIndependent t)) played one,
+        size-only-if (mustPlay d (suc a) t) played one,
       )
 
   -- a role is played by one type

@@ -27,7 +27,7 @@ unfolding
     Pairing.gcdWithin Pairing.gcd Pairing.lcm Pairing.leftOf Pairing.rightOf Pairing.single Pairing.pairedWith Pairing.pairedWithAll
     Pairing.tuples
     Limits.valueOf Limits.lowered Limits.loweredBy Limits.round Limits.upperAfter Limits.firstBelow Limits.slack Limits.runFrom Limits.run
-    Diagram.isRoot Diagram.isIndependent Diagram.isMandatory Diagram.isGrouped Diagram.allRoles Diagram.allGroups Diagram.lineOfType
+    Diagram.isRoot Diagram.isIndependent Diagram.isMandatory Diagram.isGrouped Diagram.plays Diagram.mustPlay Diagram.allRoles Diagram.allGroups Diagram.lineOfType
     Diagram.lineOfRole Diagram.lineOfGroup Diagram.lineOfPred Diagram.linesOfPred Diagram.lineOfCount Diagram.lines Diagram.table
     Diagram.totals
     Reader.forEach Reader.atEnd Reader.exactly

@@ -59,10 +59,13 @@ sample-most : mostRounds sample ≡ 12388
 unfolding everything sample
 sample-most = refl
 
--- A subtype of the second type, as the third: at most its supertype; independent, or playing no role
-subtype : ℕ → List Limit
-subtype indep = limitsOfType sample 2 (record { min = 1; max = 9; first = 0; last = 0; super = 2; indep = indep })
+-- The third type, which plays no role: at most its supertype, and free of the sum limit where it has one; a root that is not independent
+-- comes to 0
+third : ℕ → ℕ → List Limit
+third super indep = limitsOfType sample 2 (record { min = 1; max = 9; first = 0; last = 0; super = super; indep = indep })
 
-subtype-limits : subtype 1 ∷ subtype 0 ∷ [] ≡ (atMost 2 1 ∷ []) ∷ (atMost 2 1 ∷ record { target = 2; most = sum [] } ∷ []) ∷ []
-unfolding everything sample subtype
-subtype-limits = refl
+third-limits :
+    third 2 1 ∷ third 2 0 ∷ third 0 1 ∷ third 0 0 ∷ []
+    ≡ (atMost 2 1 ∷ []) ∷ (atMost 2 1 ∷ []) ∷ [] ∷ (record { target = 2; most = sum [] } ∷ []) ∷ []
+unfolding everything sample third
+third-limits = refl

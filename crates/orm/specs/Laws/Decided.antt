@@ -1,23 +1,24 @@
 -- The tests of `Constraints` decide the propositions of `Meaning`.
 use Prim.Native.Nat.{ℕ, suc, _≤_}
-use mathlib.Core.Path.{_≡_, refl}
-use mathlib.Core.Logic.{_↔_, Iff·trans, Iff·and, _⊎_, inl, inr, ⊎-elim}
-use mathlib.Core.Bool.{Bool, true, false, false≢true, and-eq-true-iff}
+use mathlib.Core.Path.{_≡_, refl, subst}
+use mathlib.Core.Logic.{_↔_, Iff·trans, Iff·and, Iff·not, _⊎_, inl, inr, ⊎-elim}
+use mathlib.Core.Bool.{Bool, true, false, _||_, false≢true, and-eq-true-iff}
+use mathlib.Mathlib.Data.Bool.Basic.{not-iff-not}
 use mathlib.Core.Option.{Option, none, some}
-use mathlib.Core.List.{List, [], _∷_, _++_, List·Memᴰ·head as here, List·Memᴰ·tail as there, List·Memᴰ·not-nil, List·Memᴰ·append-cases, Memᴰ·append-left, Memᴰ·append-right}
+use mathlib.Core.List.{List, [], _∷_, _++_, map, Memᴰ·map, Memᴰ·of-map, List·Memᴰ·head as here, List·Memᴰ·tail as there, List·Memᴰ·not-nil, List·Memᴰ·append-cases, Memᴰ·append-left, Memᴰ·append-right}
 use native.Mathlib.Omega.{arith}
 use borrow.Author.Tests.{leb-true, le-leb}
 use lib.Dec.{eqb, leb}
 use lib.ListN.{length}
 use Rattle.counting.specs.Distinct.{all, within}
 use Rattle.counting.specs.Terms.{_∈_}
-use Rattle.counting.specs.Laws.Distinct.{all-decides, within-decides, allDiffer-decides}
+use Rattle.counting.specs.Laws.Distinct.{all-decides, member-decides, within-decides, allDiffer-decides}
 use Rattle.counting.specs.Laws.Instances.{eqb-decides, same-decides}
-use Rattle.orm.specs.Diagram.{ObjectType, Predicate, Diagram, isRoot, isIndependent, isMandatory}
+use Rattle.orm.specs.Diagram.{ObjectType, Role, Predicate, Diagram, isRoot, isIndependent, isMandatory, plays, mustPlay, allRoles}
 use Rattle.orm.specs.Form.{_to_, inRange}
 use Rattle.orm.specs.Population.{Population}
 use Rattle.orm.specs.Constraints.{Played, played, grouped, allPlayed, membersOf, valuesInRoles, eachType, eachPred, K1, K2, K3, K4, K5, K6, K7, K8, K9, K10, constraints, valid, breaks, firstFalse, firstBroken, answer}
-use Rattle.orm.specs.Meaning.{Between, EachType, EachPred, InRoleOf, M1, M2, M3, M4, M5, M6, M7, M8, M9, M10, Meets}
+use Rattle.orm.specs.Meaning.{Between, EachType, EachPred, InRoleOf, Plays, MustPlay, M1, M2, M3, M4, M5, M6, M7, M8, M9, M10, Meets}
 
 -- ---- one test
 
@@ -36,6 +37,25 @@ if-decides false t b p = (λ h x. absurd (false≢true (b .1 x)), λ f. refl)
 unless-decides : (b t : Bool) {B P : Type 0} → b ≡ true ↔ B → t ≡ true ↔ P → elim b [ true ↦ true | false ↦ t ] ≡ true ↔ (¬ B → P)
 unless-decides true t b p = (λ h f. absurd (f (b .0 refl)), λ f. refl)
 unless-decides false t b p = (λ h _. p .0 h, λ f. p .1 (f (λ x. false≢true (b .1 x))))
+
+or-decides : (a b : Bool) {A B : Type 0} → a ≡ true ↔ A → b ≡ true ↔ B → (a || b) ≡ true ↔ (A ⊎ B)
+or-decides true b p q = (λ h. inl (p .0 refl), λ h. refl)
+or-decides false b p q = (λ h. inr (q .0 h), λ h. ⊎-elim (λ x. absurd (false≢true (p .1 x))) (q .1) h)
+
+-- ---- the types whose members are to be in roles
+
+pub plays-decides : (number : ℕ) (rs : List Role) → plays number rs ≡ true ↔ Plays number rs
+unfolding plays
+plays-decides number rs =
+    Iff·trans (member-decides eqb-decides number (map (λ (r : Role). r .type) rs))
+    (Memᴰ·of-map (λ (r : Role). r .type) rs, λ h. subst (λ (n : ℕ). n ∈ map (λ (r : Role). r .type) rs) (h .2) (Memᴰ·map (λ (r : Role). r .type) (h .1)))
+
+pub mustPlay-decides : (d : Diagram) (number : ℕ) (t : ObjectType) → mustPlay d number t ≡ true ↔ MustPlay d number t
+unfolding mustPlay isIndependent isRoot
+mustPlay-decides d number t =
+    Iff·trans (and-eq-true-iff _ _)
+    (Iff·and (Iff·trans not-iff-not (Iff·not (eqb-decides .iff (t .indep) 1)))
+    (or-decides _ _ (eqb-decides .iff (t .super) 0) (plays-decides number (allRoles d))))
 
 -- A value in the roles that a type plays is in the column of one of them
 pub in-roles : (number v : ℕ) (l : List Played) → (v ∈ valuesInRoles number l) ↔ InRoleOf number l v
@@ -108,11 +128,11 @@ module _ (o : Population) where
       (within-decides eqb-decides (membersOf o (x .role .type)) (x .values))) (played p rows)
 
 K10-decides : (d : Diagram) (o : Population) (n : ℕ) (t : ObjectType) (vs : List ℕ) → K10 d o n t vs ≡ true ↔ M10 d o n t vs
-unfolding K10 isIndependent
+unfolding K10
 K10-decides d o n t vs =
     let values = valuesInRoles n (allPlayed d o) in
     let in-role : (v : ℕ) → v ∈ values ↔ InRoleOf n (allPlayed d o) v = λ v. in-roles n v (allPlayed d o) in
-    unless-decides (isIndependent t) (within eqb vs values) (eqb-decides .iff (t .indep) 1)
+    if-decides (mustPlay d n t) (within eqb vs values) (mustPlay-decides d n t)
     (Iff·trans (within-decides eqb-decides vs values) (λ s v m. in-role v .0 (s v m), λ f v m. in-role v .1 (f v m)))
 
 -- ---- all constraints

@@ -9,9 +9,8 @@ pub push-sum-spec : {M : Type 1} → statement M
 push-sum-spec =
     tie.close
     (tie.spec
+    (λ c κs. search needs)
     (λ c. search needs)
-    (λ c κs. search needs)
-    (λ c κs. search needs)
     (λ c κs. search needs)
     (λ c. search needs)
     (λ c. search (needs, sum-is)))

@@ -1,6 +1,6 @@
--- `limits::types::push_type` meets its contract. Its two limits, one after another.
+-- `limits::types::push_type` meets its contract. Its supertype's limit, and the sum where the type must play.
 -- Assumes nothing.
-use Rattle.limits.proofs.Walked.{type-is}
+use Rattle.limits.proofs.Walked.{own-plays, type-held, type-free}
 use borrow.Author.Needs.{needs}
 use Rattle.limits.proofs.types.push_type.Statement.{statement}
 use Rattle.limits.proofs.types.push_type.Tie as tie
@@ -13,8 +13,12 @@ push-type-spec =
     (λ c κs. search needs)
     (λ c κs. search needs)
     (λ c κs. search needs)
-    (λ c κs. search needs)
-    (λ c κs. search needs)
+    (λ c. search needs)
     (λ c κs. search needs)
     (λ c. search needs)
-    (λ c. search (needs, type-is)))
+    (λ c κs. search (needs, own-plays))
+    (λ c κs. search needs)
+    (λ c. search needs)
+    (λ c. search (needs, type-held))
+    (λ c. search needs)
+    (λ c. search (needs, type-free)))

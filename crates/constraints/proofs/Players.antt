@@ -1,13 +1,13 @@
 -- K10 of the type at `ty` in the table, with its block at `at` in the cells.
 use Prim.Native.Nat.{ℕ}
 use mathlib.Core.Path.{_≡_}
-use mathlib.Core.Bool.{Bool, true}
+use mathlib.Core.Bool.{Bool, true, false, not}
 use mathlib.Core.List.{List}
 use lib.Dec.{eqb}
-use lib.ListN.{getD, drop}
-use borrow.Author.Tests.{ne-eqb}
+use lib.ListN.{drop}
+use borrow.Author.Tests.{not-true, not-false}
 use Rattle.counting.specs.Distinct.{within}
-use Rattle.orm.specs.Diagram.{isIndependent}
+use Rattle.orm.specs.Diagram.{mustPlay}
 use Rattle.orm.specs.Form.{typeOf}
 use Rattle.orm.specs.Constraints.{K10}
 use Rattle.table.specs.Positions.{diagramOf}
@@ -16,13 +16,13 @@ use Rattle.columns.specs.Values.{valuesIn}
 use Rattle.blocks.specs.Blocks.{membersAt}
 use Rattle.playing.specs.Playing.{playedBy, populationOf}
 
-module _ (t s : List ℕ) (ty at number : ℕ) {indep : ℕ} (e : indep ≡ getD (drop ty t) 5 0) where
-  pub k10-free : indep ≡ 1 → true ≡ K10 (diagramOf t) (populationOf t s) number (typeOf (drop ty t)) (membersAt (drop at s))
-  unfolding K10 isIndependent
-  k10-free h = rw (← e, h)
+module _ (t s : List ℕ) (ty at number : ℕ) {must : Bool} (e : must ≡ mustPlay (diagramOf t) number (typeOf (drop ty t))) where
+  pub k10-free : not must ≡ true → true ≡ K10 (diagramOf t) (populationOf t s) number (typeOf (drop ty t)) (membersAt (drop at s))
+  unfolding K10
+  k10-free h = rw (← e, not-true must h, K10)
 
-  pub k10-is : {b : Bool} (c : Column) → (indep ≡ 1 → ⊥) → valuesIn s c ≡ membersAt (drop at s)
+  pub k10-is : {b : Bool} (c : Column) → not must ≡ false → valuesIn s c ≡ membersAt (drop at s)
       → b ≡ within eqb (valuesIn s c) (playedBy (diagramOf t) (populationOf t s) number)
       → b ≡ K10 (diagramOf t) (populationOf t s) number (typeOf (drop ty t)) (membersAt (drop at s))
-  unfolding K10 isIndependent
-  k10-is c n m q = rw (← e, ne-eqb indep 1 n, K10, isIndependent, ← m) q
+  unfolding K10
+  k10-is c h m q = rw (← e, not-false must h, K10, ← m) q

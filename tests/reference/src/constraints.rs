@@ -90,7 +90,8 @@ fn type_breaks(d: &Diagram, population: &Population, constraint: u32, a: usize) 
         3 => t.over == 0 && values.iter().any(|v| *v < t.first || *v > t.last),
         // "K4 subtype within supertype"
         4 => t.over != 0 && !within(values, &population.values[t.over as usize - 1]),
-        // "K10 each member of a non-independent type is in a role that type plays"
+        // "K10 each member of a non-independent type is in a role that type plays";
+        // a subtype that plays none is free of it.
         _ => {
             let mut played = Vec::new();
             for (pred, members) in d.preds.iter().zip(&population.members) {
@@ -101,7 +102,7 @@ fn type_breaks(d: &Diagram, population: &Population, constraint: u32, a: usize) 
                 }
             }
             played.sort_unstable();
-            t.indep == 0 && !within(values, &played)
+            d.must_play(a) && !within(values, &played)
         }
     }
 }

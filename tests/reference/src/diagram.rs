@@ -98,6 +98,19 @@ impl Diagram {
     pub fn count_groups(&self) -> usize {
         self.preds.iter().map(|p| p.groups.len()).sum()
     }
+
+    /// Whether a role has this very type, which is given by its index.
+    pub fn plays(&self, a: usize) -> bool {
+        let mut roles = self.preds.iter().flat_map(|p| &p.roles);
+        roles.any(|role| role.kind as usize == a + 1)
+    }
+
+    /// Whether the type has the sum limit and K10: "a non-independent subtype that
+    /// plays no role is free of the sum limit and of K10" (document 02, S-2).
+    pub fn must_play(&self, a: usize) -> bool {
+        let t = &self.types[a];
+        t.indep == 0 && (t.over == 0 || self.plays(a))
+    }
 }
 
 /// A source of lines: the text, or the table "cut into the same lines".

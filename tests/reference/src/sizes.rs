@@ -83,8 +83,8 @@ fn round(d: &Diagram, old: &[u32], new: &mut [u32]) {
             lower(a, at(t.over as usize - 1));
         }
         // "not independent: a at most the sum of the roles it plays itself,
-        // 0 if it plays none".
-        if t.indep == 0 {
+        // 0 if it plays none"; a subtype that plays none has no such limit.
+        if d.must_play(a) {
             lower(a, sums[a]);
         }
     }

@@ -1,4 +1,5 @@
-//! The cases marked P of document 01, as far as the calls show them.
+//! The cases marked P of document 01, as far as the calls show them, and the
+//! types without roles of document 02, S-2.
 
 use reference::{check, populate, program, read, validate, Refusal, Settled, Verdict};
 
@@ -19,6 +20,40 @@ fn cells(text: &str) -> Vec<u32> {
 
 fn output(text: &str) -> String {
     String::from_utf8(program(text.as_bytes())).unwrap()
+}
+
+/// The sample with further type lines, from the third on.
+fn with_types(lines: &[&str]) -> String {
+    let types = format!("types={}\n", 2 + lines.len());
+    let more: String = lines.iter().map(|line| format!("type={line}\n")).collect();
+    let text = SAMPLE.replace("types=2\n", &types);
+    text.replace("preds=1\n", &(more + "preds=1\n"))
+}
+
+/// A second predicate of one row and one role, which this type plays.
+fn with_role(text: &str, kind: u32) -> String {
+    let text = text.replace("preds=1\n", "preds=2\n");
+    let more = format!("pred=1,1,1,0\nrole={kind},0,0\nend=3\n");
+    text.replace("end=2\n", &more)
+}
+
+/// The rounds and the sizes.
+fn sizes(text: &str) -> (u64, Vec<u32>) {
+    let mut sizes = [0; 208];
+    let settled = check(&table(text), &mut sizes).unwrap();
+    (settled.rounds, sizes[..settled.length].to_vec())
+}
+
+/// The lowest broken constraint and its number, 0 and 0 where none is broken.
+fn broken(text: &str, cells: &[u32]) -> (u32, u32) {
+    let verdict = validate(&table(text), cells).unwrap();
+    (verdict.constraint, verdict.number)
+}
+
+/// The sample's cells with those of further types, and of a second predicate.
+fn sample_cells(types: &[u32], pred: &[u32]) -> Vec<u32> {
+    let rows = [6, 1, 1, 2, 2, 3, 1, 1, 2, 2, 1, 3, 2];
+    [&[3, 1, 2, 3, 2, 1, 2], types, &rows, pred].concat()
 }
 
 #[test]
@@ -61,8 +96,7 @@ fn p2_p3_p8_p9_emptied() {
     let p3 = "diagram=1\ntypes=2\ntype=1,10,1,10,0,0\ntype=1,2,1,2,0,0\npreds=1\n\
         pred=1,100,2,1\nrole=1,0,1\nrole=2,0,0\nfreq=3,3\nend=2\n";
     assert_eq!(output(p3), "refused=7,6,12\n");
-    let p8 = SAMPLE.replace("types=2", "types=3");
-    let p8 = p8.replace("preds=1", "type=1,5,1,5,0,0\npreds=1");
+    let p8 = with_types(&["1,5,1,5,0,0"]);
     assert_eq!(output(&p8), "refused=7,3,1\n");
     let p9 = SAMPLE.replace("type=1,3,1,9,0,0", "type=3,5,1,2,0,1");
     assert_eq!(output(&p9), "refused=7,1,0\n");
@@ -107,4 +141,76 @@ fn p10_p11_and_the_examples_of_refusals() {
     assert_eq!(output(five), "refused=5,7,0\n");
     let six = SAMPLE.replace("end=2", "end=3");
     assert_eq!(output(&six), "refused=6,10,0\n");
+}
+
+/// A root without roles, whose subtype plays one.
+const SUBTYPE_PLAYS: &str = "diagram=1\ntypes=2\ntype=1,3,1,9,0,0\ntype=1,3,0,0,1,0\n\
+    preds=1\npred=1,3,1,0\nrole=2,0,0\nend=1\n";
+
+#[test]
+fn a_subtype_without_roles_settles_at_its_supertype() {
+    let free = with_types(&["1,5,0,0,1,0"]);
+    let expected = "rounds=4\nsize=3\nsize=2\nsize=3\nsize=6\nsize=3\nsize=2\nsize=3\n\
+        type=1,2,3\ntype=1,2\ntype=1,2,3\npred=1\nrow=1,1\nrow=2,2\nrow=3,1\nrow=1,2\n\
+        row=2,1\nrow=3,2\n";
+    assert_eq!(output(&free), expected);
+    // Its own MAX and MIN stand.
+    let (_, two) = sizes(&with_types(&["1,2,0,0,1,0"]));
+    assert_eq!(two, [3, 2, 2, 6, 3, 2, 3]);
+    let four = with_types(&["4,5,0,0,1,0"]);
+    assert_eq!(output(&four), "refused=7,3,1\n");
+    // Each round carries the root's size one subtype further, the last in the
+    // fourth.
+    let chain = ["1,5,0,0,1,0", "1,5,0,0,3,0", "1,5,0,0,4,0", "1,5,0,0,5,0"];
+    let expected = vec![3, 2, 3, 3, 3, 3, 6, 3, 2, 3];
+    assert_eq!(sizes(&with_types(&chain)), (5, expected));
+}
+
+#[test]
+fn a_root_without_roles_is_emptied() {
+    // Neither a free subtype nor one that plays is of help to it.
+    let subtype = with_types(&["1,5,1,5,0,0", "1,5,0,0,3,0"]);
+    assert_eq!(output(&subtype), "refused=7,3,1\n");
+    assert_eq!(output(SUBTYPE_PLAYS), "refused=7,1,1\n");
+}
+
+#[test]
+fn a_subtype_that_plays_keeps_its_sum() {
+    let one = with_role(&with_types(&["1,5,0,0,1,0"]), 3);
+    assert_eq!(sizes(&one), (4, vec![3, 2, 1, 6, 1, 3, 2, 1, 3]));
+    let two = with_role(&with_types(&["2,5,0,0,1,0"]), 3);
+    assert_eq!(output(&two), "refused=7,3,2\n");
+    // A role of a subtype is none of its supertype's, nor the reverse.
+    let below = with_role(&with_types(&["1,5,0,0,1,0", "1,5,0,0,3,0"]), 4);
+    assert_eq!(sizes(&below), (4, vec![3, 2, 3, 1, 6, 1, 3, 2, 1, 3]));
+    let above = with_role(&with_types(&["1,5,0,0,1,0", "1,5,0,0,3,0"]), 3);
+    assert_eq!(sizes(&above), (4, vec![3, 2, 1, 1, 6, 1, 3, 2, 1, 3]));
+}
+
+#[test]
+fn k10_of_types_without_roles() {
+    // A subtype without roles is free of it, all members or some.
+    let free = with_types(&["1,5,0,0,1,0"]);
+    assert_eq!(broken(&free, &cells(&free)), (0, 0));
+    assert_eq!(broken(&free, &sample_cells(&[1, 2], &[])), (0, 0));
+    let chain = with_types(&["1,5,0,0,1,0", "1,5,0,0,3,0"]);
+    assert_eq!(broken(&chain, &sample_cells(&[2, 3, 1, 1, 3], &[])), (0, 0));
+    // The other constraints stand.
+    assert_eq!(broken(&chain, &sample_cells(&[1, 3, 1, 1], &[])), (4, 4));
+    // A root is not.
+    let root = with_types(&["1,5,1,5,0,0"]);
+    assert_eq!(broken(&root, &sample_cells(&[1, 4], &[])), (10, 3));
+    assert_eq!(broken(SUBTYPE_PLAYS, &[1, 1, 1, 1, 1, 1]), (10, 1));
+}
+
+#[test]
+fn k10_of_a_subtype_that_plays() {
+    // The second member is in a role of the root alone.
+    let plays = with_role(&with_types(&["1,5,0,0,1,0"]), 3);
+    assert_eq!(broken(&plays, &sample_cells(&[1, 2], &[1, 2])), (0, 0));
+    assert_eq!(broken(&plays, &sample_cells(&[2, 1, 2], &[1, 1])), (10, 3));
+    // Behind a free subtype, which is not named.
+    let behind = with_role(&with_types(&["1,5,0,0,1,0", "1,5,0,0,1,0"]), 4);
+    let two = sample_cells(&[1, 3, 2, 1, 2], &[1, 1]);
+    assert_eq!(broken(&behind, &two), (10, 4));
 }

@@ -95,8 +95,8 @@ fn kind(random: &mut Random, own: u32, size: u32) -> Type {
         _ => random.between(1, size),
     };
     let over = match random.below(8) {
-        0 => own - 1,
-        1 => random.between(0, own - 1),
+        0..2 => own - 1,
+        2 => random.between(0, own - 1),
         _ => 0,
     };
     // As many values as MAX, fewer, more, many more.
@@ -220,11 +220,26 @@ fn relax(random: &mut Random, d: &mut Diagram) {
             group.fmin = fmin.min(group.fmax);
         }
     }
-    for (own, t) in (1..).zip(&mut d.types) {
-        let mut roles = d.preds.iter().flat_map(|pred| &pred.roles);
-        if roles.all(|role| role.kind != own) {
-            t.indep = 1;
+    for a in 0..d.types.len() {
+        if d.must_play(a) && !d.plays(a) {
+            d.types[a].indep = 1;
         }
+    }
+}
+
+/// Further subtypes, which play no role, below any type or below one another.
+fn add_subtypes(random: &mut Random, d: &mut Diagram, size: u32) {
+    let count = random.pick(&[1, 1, 2, 3]).min(32 - d.types.len());
+    for _ in 0..count {
+        let last = d.types.len() as u32;
+        d.types.push(Type {
+            min: 1,
+            max: random.between(1, size),
+            first: 0,
+            last: 0,
+            over: random.between(1, last).max(random.between(1, last)),
+            indep: u32::from(random.chance(25)),
+        });
     }
 }
 
@@ -297,6 +312,9 @@ pub fn diagram(random: &mut Random) -> Diagram {
         let pred = predicate(random, types, &o, (left.0 - later, left.1));
         left = (left.0 - pred.roles.len(), left.1 - pred.groups.len());
         d.preds.push(pred);
+    }
+    if random.chance(20) {
+        add_subtypes(random, &mut d, o.size);
     }
     if random.chance(70) {
         relax(random, &mut d);
@@ -585,6 +603,32 @@ fn rename(random: &mut Random, d: &Diagram, parts: &mut Parts) {
     }
 }
 
+/// A member of a type that must play, mostly a subtype where there is one, is
+/// replaced by another in every role of the type.
+fn replace(random: &mut Random, d: &Diagram, parts: &mut Parts) {
+    let must = |a: &usize| d.must_play(*a) && parts.types[*a].len() > 1;
+    let must: Vec<usize> = (0..d.types.len()).filter(must).collect();
+    if must.is_empty() {
+        return;
+    }
+    let a = match must.iter().rfind(|a| d.types[**a].over != 0) {
+        Some(a) if random.chance(80) => *a,
+        _ => random.pick(&must),
+    };
+    let (member, other) = (random.pick(&parts.types[a]), random.pick(&parts.types[a]));
+    for (pred, rows) in d.preds.iter().zip(&mut parts.preds) {
+        for row in rows.iter_mut() {
+            for (role, cell) in pred.roles.iter().zip(row) {
+                if role.kind as usize == a + 1 && *cell == member {
+                    *cell = other;
+                }
+            }
+        }
+        rows.sort();
+        rows.dedup();
+    }
+}
+
 /// One change to a population that keeps its sizes true.
 fn change(random: &mut Random, d: &Diagram, parts: &mut Parts) {
     let (a, r) = (random.below(d.types.len()), random.below(d.preds.len()));
@@ -604,8 +648,8 @@ fn change(random: &mut Random, d: &Diagram, parts: &mut Parts) {
     let values = &mut parts.types[a];
     let rows = &mut parts.preds[r];
     let count = rows.len();
-    match random.below(24) {
-        // A member more, a member fewer, a member changed, one twice.
+    match random.below(27) {
+        // A member more, a member fewer, a member changed, one twice, one in no role.
         0..3 => values.push(match values.last() {
             Some(last) => last.wrapping_add(1),
             None => d.types[a].first,
@@ -619,10 +663,12 @@ fn change(random: &mut Random, d: &Diagram, parts: &mut Parts) {
             let (from, to) = (random.below(values.len()), random.below(values.len()));
             values[to] = values[from];
         }
-        20.. if !values.is_empty() && !values.contains(&base) => {
+        20..22 if !values.contains(&base) => values.push(base),
+        22..24 if !values.is_empty() && !values.contains(&base) => {
             let at = random.below(values.len());
             values[at] = base;
         }
+        24.. => replace(random, d, parts),
         // A row twice, rows fewer, a row more, a cell changed.
         6 if count > 0 => {
             let (from, to) = (random.below(count), random.below(count));

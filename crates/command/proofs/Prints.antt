@@ -39,12 +39,12 @@ use Rattle.table.specs.Laws.Valid.{accepted-valid, valid-walkable}
 use Rattle.table.specs.Laws.Walks.{each-length}
 use Rattle.populate.specs.Answer.{cellsOf, Settled}
 use Rattle.populate.specs.Demand3.{TableOf, Emptied, Making, Lacks, Written, Means, settledSizes, ReadMeans, TableRead}
-use Rattle.populate.specs.Tied.{demand-3}
+use Rattle.populate.specs.Tied.{table-accepted, demand-3}
 use Rattle.report.specs.Printed.{printed}
 use Rattle.report.specs.Laws.Printed.{printed-report}
 use Rattle.command.specs.Reports.{refusalLine, settlementLine, textReport, tableReport}
 use Rattle.table.specs.Laws.TableOf.{table-short}
-use Rattle.command.specs.Laws.Reports.{emptied-report, settled-report, large-report, table-accepted, table-report, text-report, faulty-report}
+use Rattle.command.specs.Laws.Reports.{emptied-report, settled-report, large-report, table-report, text-report, faulty-report}
 use Rattle.command.specs.Laws.Reports.{program-cut, program-whole}
 
 -- ---- the refusal

@@ -127,12 +127,12 @@ module _ (before after : List ℕ) where
 
 -- ---- check and populate
 
-module _ (t : List ℕ) where
-  accepts : (x : TableOf t) → diagramIn tableLine t ≡ accepted (x .diagram)
-  accepts x = guarantee .accepted-tables t (x .diagram) .1 (x .same-table, x .wellFormed)
+pub table-accepted : {t : List ℕ} (x : TableOf t) → diagramIn tableLine t ≡ accepted (x .diagram)
+table-accepted {t} x = guarantee .accepted-tables t (x .diagram) .1 (x .same-table, x .wellFormed)
 
+module _ (t : List ℕ) where
   g : (x : TableOf t) → TableGuarantee t (x .diagram)
-  g x = guarantee .of-table t (x .diagram) (accepts x)
+  g x = guarantee .of-table t (x .diagram) (table-accepted x)
 
   -- a table is that of a well-formed diagram, or of none
   of-one : (d : Diagram) → diagramIn tableLine t ≡ accepted d → TableOf t
@@ -145,7 +145,7 @@ module _ (t : List ℕ) where
       go (accepted d) e = yes-so (of-one d e)
       go (refused c place round) e =
           let none : (d : Diagram) → ¬ (diagramIn tableLine t ≡ accepted d) = λ d q. let z : _≡_ {A = ℕ} 0 1 = cc in omega arith in
-          no-so (λ x. none (x .diagram) (accepts x)) (guarantee .other-tables t none)
+          no-so (λ x. none (x .diagram) (table-accepted x)) (guarantee .other-tables t none)
 
   module _ (before : List ℕ) where
     checked : Ending t settledSizes (checkCall t (length before)) before

@@ -8,17 +8,15 @@ use lib.ListN.{length, getD, drop, List·getD-append}
 use Rattle.counting.specs.Laws.Index.{At, at-below, each-from-at}
 use Rattle.fixpoint.specs.Limits.{unsatisfiable}
 use Rattle.orm.specs.Diagram.{ObjectType, Diagram, index}
-use Rattle.orm.specs.Text.{tableLine}
 use Rattle.orm.specs.Sets.{upper, verdict}
 use Rattle.orm.specs.Populate.{size}
 use Rattle.orm.specs.Constraints.{Answer, valid, breaks}
 use Rattle.orm.specs.Outcome.{Outcome, refused, accepted}
-use Rattle.orm.specs.Calls.{diagramIn, validateCall}
+use Rattle.orm.specs.Calls.{validateCall}
 use Rattle.orm.specs.Meaning.{MustPlay}
 use Rattle.orm.specs.WellFormed.{TypeForm}
 use Rattle.orm.specs.Laws.Bounds.{length-upper}
 use Rattle.guarantee.specs.Guarantee.{NoPopulation, EmptiedAt, Populated}
-use Rattle.guarantee.specs.Proof.{guarantee}
 use Rattle.guarantee.specs.Subtypes.{FreeSubtype, RolelessRoot, TableSubtypes}
 use Rattle.guarantee.specs.Subtypes.Proof.{subtypes}
 use Rattle.grammar.specs.Fault.{numberOf}
@@ -28,6 +26,7 @@ use Rattle.bounds.specs.Answer.{settlementOf}
 use Rattle.bounds.specs.declared.Settlement.{Settlement}
 use Rattle.bounds.specs.declared.Settlement.the-variants.{Refused, Unsatisfiable, TooShort, Accepted}
 use Rattle.populate.specs.Demand3.{TableOf, Making, Means, settledSizes, Written}
+use Rattle.populate.specs.Tied.{table-accepted}
 use Rattle.capi.specs.Answers.{numbers, verdictNumbers}
 use Rattle.capi.specs.Told.{Told}
 use Rattle.capi.specs.Subtypes.{HasValidated, SubtypesTold}
@@ -35,14 +34,11 @@ use Rattle.capi.specs.Subtypes.{HasValidated, SubtypesTold}
 -- ---- the diagram of a table
 
 module _ {t : List ℕ} where
-  accepts : (x : TableOf t) → diagramIn tableLine t ≡ accepted (x .diagram)
-  accepts x = guarantee .accepted-tables t (x .diagram) .1 (x .same-table, x .wellFormed)
-
   said : (x : TableOf t) → TableSubtypes t (x .diagram)
-  said x = subtypes .of-table t (x .diagram) (accepts x)
+  said x = subtypes .of-table t (x .diagram) (table-accepted x)
 
   same : (x y : TableOf t) → x .diagram ≡ y .diagram
-  same x y = cc (accepts x, accepts y)
+  same x y = cc (table-accepted x, table-accepted y)
 
 -- ---- check accepts
 

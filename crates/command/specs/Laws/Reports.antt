@@ -7,7 +7,7 @@ use lib.ListN.{length, take}
 use lib.Seq.{take-all}
 use Rattle.fixpoint.specs.Limits.{unsatisfiable, fixpoint}
 use Rattle.orm.specs.Diagram.{Diagram, table}
-use Rattle.orm.specs.Text.{textLine, tableLine, lineText}
+use Rattle.orm.specs.Text.{textLine, lineText}
 use Rattle.orm.specs.Sets.{verdict}
 use Rattle.orm.specs.Population.{cells}
 use Rattle.orm.specs.Populate.{population}
@@ -17,6 +17,7 @@ use Rattle.orm.specs.Program.{report, output, reported, program}
 use Rattle.reading.specs.Laws.{fits, does-not-fit, accepted-or-fault}
 use Rattle.guarantee.specs.Proof.{guarantee}
 use Rattle.populate.specs.Demand3.{TableOf, TextOf}
+use Rattle.populate.specs.Tied.{table-accepted}
 use Rattle.command.specs.Reports.{refusalLine, reportOn, textReport, tableReport}
 
 -- ---- of a diagram, by the verdict of the rounds
@@ -45,12 +46,9 @@ module _ (d : Diagram) where
 -- ---- of the table of a well-formed diagram
 
 module _ {t : List ℕ} (x : TableOf t) where
-  pub table-accepted : diagramIn tableLine t ≡ accepted (x .diagram)
-  table-accepted = guarantee .accepted-tables t (x .diagram) .1 (x .same-table, x .wellFormed)
-
   pub table-report : tableReport t ≡ output (reportOn (x .diagram))
   unfolding tableReport
-  table-report = ap (λ (o : Outcome Diagram). output (o >>= reportOn)) table-accepted
+  table-report = ap (λ (o : Outcome Diagram). output (o >>= reportOn)) (table-accepted x)
 
 -- ---- of a text
 

@@ -1,5 +1,5 @@
 -- The laws by which writings are put together: code after code writes `xs ++ ys` (`wrote-then`); a loop keeps `Writing`, by which what is
--- left to write comes to the whole.
+-- left to write comes to the whole. At the end, one number that is read.
 use Prim.Native.Nat.{ℕ, zero, suc, _+_, _-_, _≤_, _<_}
 use native.Mathlib.Numerals.{add-one}
 use native.Mathlib.Decide.{decLe}
@@ -8,8 +8,8 @@ use mathlib.Core.Path.{_≡_, refl, sym, ap, subst, _∙_}
 use mathlib.Core.Bool.{Bool, true, false}
 use mathlib.Core.List.{List, [], _∷_, _++_, append-assoc}
 use lib.Dec.{ltb}
-use lib.ListN.{length, getD, take, drop, set, replicate, length-set, drop-of-length-le}
-use lib.Seq.{sets, sets-eq, take-append-seam, drop-cons, length-take-le}
+use lib.ListN.{length, getD, take, drop, set, replicate, length-set, length-drop, drop-of-length-le, List·getD-eq-default}
+use lib.Seq.{sets, sets-eq, take-append-seam, drop-cons, length-take-le, getD-drop}
 use borrow.Author.Tests.{lt-ltb, le-ltb, ltb-true}
 use Rattle.buffer.specs.Written.{Output, put, puts, output, Wrote, Writing, Splits}
 
@@ -203,3 +203,15 @@ module _ {o xs o′ : List ℕ} {to : ℕ} (w : Wrote o 0 xs o′ to) where
 
   pub wrote-front-counts : to ≡ length (take to o′)
   wrote-front-counts = wrote-counts (omega arith) w
+
+-- ---- one number, counted from an index
+
+module _ (t : List ℕ) (at i : ℕ) where
+  pub item-here : getD t (at + i) 0 ≡ getD (drop at t) i 0
+  item-here = sym (getD-drop at t i 0)
+
+  pub item-past : length t ≤ at → 0 ≡ getD (drop at t) i 0
+  item-past h = let k : length (drop at t) ≤ i = simp length-drop (omega arith) in sym (List·getD-eq-default (drop at t) 0 k)
+
+  pub item-behind : length t - at ≤ i → 0 ≡ getD (drop at t) i 0
+  item-behind h = let k : length (drop at t) ≤ i = simp length-drop (omega arith) in sym (List·getD-eq-default (drop at t) 0 k)

@@ -1,9 +1,10 @@
-// Numbers written into a buffer one after another. Each function writes from the index `at` on and
-// answers the index behind what it wrote. A full buffer stays as it is.
+// Numbers written into a buffer one after another, and read. Each function that writes does so from
+// the index `at` on and answers the index behind what it wrote. A full buffer stays as it is.
 pub mod bytes;
 
+ghost use mathlib.Core.Path.{_≡_};
 ghost use mathlib.Core.List.{[], _∷_};
-ghost use lib.ListN.{replicate};
+ghost use lib.ListN.{getD, drop, replicate};
 ghost use Rattle.buffer.specs.Written.{Wrote};
 
 pub fn push(out: &mut [u32], at: usize, x: u32) -> usize
@@ -41,4 +42,17 @@ pub fn append(out: &mut [u32], at: usize, xs: &[u32]) -> usize
         i += 1;
     }
     to
+}
+
+// The number at i, counted from `at`; 0 past the end.
+pub fn item(xs: &[u32], at: usize, i: usize) -> u32
+    ensures { λ r. ⌜ r ≡ getD (drop at (now (xs .entry))) i 0 ⌝ }
+{
+    if xs.len() <= at {
+        return 0;
+    }
+    if xs.len() - at <= i {
+        return 0;
+    }
+    xs[at + i]
 }

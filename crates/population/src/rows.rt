@@ -25,7 +25,7 @@ fn member(flat: &[u32], place: u32) -> u32
     ensures { λ r. ⌜ r ≡ getD (now (flat .entry)) place 0 ⌝ }
     ensures { λ r. ⌜ r ≤ 16384 ⌝ }
 {
-    tuples::item(flat, 0, table::index(place))
+    buffer::item(flat, 0, table::index(place))
 }
 
 // The cell of the column at p in a row given by parts.

@@ -16,7 +16,7 @@ pub fn size(c: &[u32], s: u32) -> u32
     ensures { λ r. ⌜ r ≡ getD (now (c .entry)) s 0 ⌝ }
     ensures { λ r. ⌜ r ≤ 4096 ⌝ }
 {
-    tuples::item(c, 0, table::index(s))
+    buffer::item(c, 0, table::index(s))
 }
 
 // SUPER of the type at an index; 0 of a type that is not there.

@@ -1,11 +1,11 @@
--- Single numbers: remainders and quotients, also by 0, the greatest common divisor, products that fit, and reading past the end.
-use Prim.Native.Nat.{ℕ, zero, suc, _+_, _*_, _/_, _%_, _-_, _≤_, _<_}
+-- Single numbers: remainders and quotients, also by 0, the greatest common divisor, and products that fit.
+use Prim.Native.Nat.{ℕ, zero, suc, _+_, _*_, _/_, _%_, _≤_, _<_}
 use native.Mathlib.Nat.{mod-zero, div-zero, mod-eq-of-lt, div-eq-of-lt, mod-le, mod-lt, div-le-self, mul-le-mul, zero-lt-suc, add-zero}
 use native.Mathlib.Omega.{arith}
 use mathlib.Core.Path.{_≡_, refl, sym, ap, ap₂, _∙_}
 use mathlib.Core.Bool.{Bool, true, false}
 use mathlib.Core.List.{List}
-use lib.ListN.{length, getD, drop, set, length-drop, List·getD-eq-default}
+use lib.ListN.{getD, drop, set}
 use lib.Seq.{getD-drop}
 use mir.Syntax.{w32}
 use mir.Val.{Fits}
@@ -54,18 +54,6 @@ product-fits a b h k = record { fits = omega (arith, mul-le-mul h k) }
 
 pub shift-fits : (i k : ℕ) {q : ℕ} → 2 * i < 4294967296 → q ≡ i / k → Fits w32 (i + q)
 shift-fits i k h e = record { fits = omega (arith, e, div-le-self i k) }
-
--- ---- one number of a list
-
-module _ (t : List ℕ) (at i : ℕ) where
-  pub item-here : getD t (at + i) 0 ≡ getD (drop at t) i 0
-  item-here = sym (getD-drop at t i 0)
-
-  pub item-past : length t ≤ at → 0 ≡ getD (drop at t) i 0
-  item-past h = let k : length (drop at t) ≤ i = simp length-drop (omega arith) in sym (List·getD-eq-default (drop at t) 0 k)
-
-  pub item-behind : length t - at ≤ i → 0 ≡ getD (drop at t) i 0
-  item-behind h = let k : length (drop at t) ≤ i = simp length-drop (omega arith) in sym (List·getD-eq-default (drop at t) 0 k)
 
 -- ---- one step of a pairing
 

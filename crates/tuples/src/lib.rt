@@ -65,19 +65,6 @@ fn kept(want: u32, n: u32, t: u32) -> u32
     if all < want { all } else { want }
 }
 
-// The number at i, counted from `at`; 0 past the end.
-pub fn item(xs: &[u32], at: usize, i: usize) -> u32
-    ensures { λ r. ⌜ r ≡ getD (drop at (now (xs .entry))) i 0 ⌝ }
-{
-    if xs.len() <= at {
-        return 0;
-    }
-    if xs.len() - at <= i {
-        return 0;
-    }
-    xs[at + i]
-}
-
 fn push_step(out: &mut [u32], at: usize, n: u32, common: u32, size: u32) -> usize
     ensures { λ r. ⌜ Wrote (now (out .entry)) at (n ∷ common ∷ size ∷ []) (now (out .exit)) r ⌝ }
 {
@@ -107,7 +94,7 @@ fn push_steps(
     let mut tuples = n;
     let mut end = to;
     while 0 < left {
-        let size = item(sizes, p, 0);
+        let size = buffer::item(sizes, p, 0);
         end = push_step(out, end, tuples, lcm(tuples, size), size);
         tuples = kept(want, tuples, size);
         p += 1;
@@ -134,7 +121,15 @@ pub fn prepare(
         return to;
     }
     let a = push_step(out, to, 0, 0, 0);
-    push_steps(want, item(sizes, at, 0), sizes, at + 1, count - 1, out, a)
+    push_steps(
+        want,
+        buffer::item(sizes, at, 0),
+        sizes,
+        at + 1,
+        count - 1,
+        out,
+        a,
+    )
 }
 
 // Whether x is below all three numbers of a step. Most are, and one test is quicker than three.
@@ -207,7 +202,7 @@ fn count_at(counts: &[u32], i: usize) -> usize
     ensures { λ r. ⌜ r ≡ getD (drop i (now (counts .entry))) 0 0 ⌝ }
     ensures { λ r. ⌜ r ≤ 4096 ⌝ }
 {
-    item(counts, i, 0) as usize
+    buffer::item(counts, i, 0) as usize
 }
 
 // The count at i, where there is one.

@@ -1,6 +1,7 @@
 -- `table::number` meets its contract. It is there.
 -- Assumes nothing.
-use Rattle.table.specs.Laws.Walks.{field-here, field-small}
+use Rattle.buffer.specs.Laws.{item-here}
+use Rattle.table.specs.Laws.Walks.{number-small}
 use borrow.Author.Needs.{needs}
 use Rattle.table.proofs.number.Statement.{statement}
 use Rattle.table.proofs.number.Tie as tie
@@ -12,4 +13,4 @@ number-spec =
     (λ c. search needs)
     (λ c. search needs)
     (λ c. search needs)
-    (λ c. search (needs, field-here, field-small)))
+    (λ c. search (needs, item-here, number-small)))

@@ -4,7 +4,7 @@ use Prim.Native.Nat.{ℕ, zero, suc, _+_, _*_, _-_, _≤_, _<_}
 use native.Mathlib.Omega.{arith}
 use mathlib.Core.Path.{_≡_, refl, sym, ap, ap₂, _∙_}
 use mathlib.Core.List.{List, [], _∷_, _++_, flatMap}
-use lib.ListN.{length, getD, drop, length-append, length-drop, List·getD-eq-default}
+use lib.ListN.{length, getD, drop, length-append}
 use lib.Seq.{drop-drop, getD-drop}
 use mir.Syntax.{w32}
 use mir.Val.{Fits}
@@ -14,18 +14,11 @@ use Rattle.table.specs.Cursors.{Ahead, rolesAhead, groupsAhead}
 
 -- ---- one number
 
-module _ (t : List ℕ) (at i : ℕ) where
-  pub field-here : getD t (at + i) 0 ≡ getD (drop at t) i 0
-  field-here = sym (getD-drop at t i 0)
+pub number-small : (t : List ℕ) (k : ℕ) → Walkable t → getD t k 0 ≤ 999999
+number-small t k w = w .small k
 
-  pub field-past : length t ≤ at → 0 ≡ getD (drop at t) i 0
-  field-past h = let k : length (drop at t) ≤ i = simp length-drop (omega arith) in sym (List·getD-eq-default (drop at t) 0 k)
-
-  pub field-behind : length t - at ≤ i → 0 ≡ getD (drop at t) i 0
-  field-behind h = let k : length (drop at t) ≤ i = simp length-drop (omega arith) in sym (List·getD-eq-default (drop at t) 0 k)
-
-pub field-small : (t : List ℕ) (k : ℕ) → Walkable t → getD t k 0 ≤ 999999
-field-small t k w = w .small k
+pub field-small : (t : List ℕ) (at i : ℕ) {r : ℕ} → Walkable t → r ≡ getD (drop at t) i 0 → r ≤ 999999
+field-small t at i w e = rw (e, getD-drop at t i 0) (w .small (at + i))
 
 -- the number of predicates stands behind the types; `n` is their number, and `i` the same as an index
 pub pred-count-is : (t : List ℕ) {n i r : ℕ} → n ≡ typeCount t → i ≡ n → r ≡ getD (drop (2 + 6 * i) t) 0 0 → r ≡ predCount t

@@ -1,9 +1,9 @@
--- `tuples::item` meets its contract. An index past the end reads 0.
+-- `buffer::item` meets its contract. An index past the end reads 0.
 -- Assumes nothing.
-use Rattle.tuples.proofs.Numbers.{item-here, item-past, item-behind}
+use Rattle.buffer.specs.Laws.{item-here, item-past, item-behind}
 use borrow.Author.Needs.{needs}
-use Rattle.tuples.proofs.item.Statement.{statement}
-use Rattle.tuples.proofs.item.Tie as tie
+use Rattle.buffer.proofs.item.Statement.{statement}
+use Rattle.buffer.proofs.item.Tie as tie
 
 pub item-spec : {M : Type 1} → statement M
 item-spec =

@@ -2,6 +2,7 @@
 pub mod Members
 pub mod Index
 pub mod Maps
+pub mod Lines
 pub mod Distinct
 pub mod Instances
 pub mod Sizes

@@ -1,4 +1,5 @@
--- The laws of a walk: `n` lines, or `n` predicates, from a position on are the one that stands there and those from the next position on.
+-- The laws of a walk: `n` predicates from a position on are the one that stands there and those from the next position on, as lines are
+-- (counting: Lines).
 -- A loop counts `n` down, so it ends where none is left.
 use Prim.Native.Nat.{ℕ, zero, suc, _+_, _*_, _-_, _≤_, _<_}
 use native.Mathlib.Omega.{arith}
@@ -8,8 +9,9 @@ use lib.ListN.{length, getD, drop, length-append}
 use lib.Seq.{drop-drop, getD-drop}
 use mir.Syntax.{w32}
 use mir.Val.{Fits}
+pub use Rattle.counting.specs.Laws.Lines.{each-more, each-none, each-length}
 use Rattle.orm.specs.Diagram.{Predicate, allRoles}
-use Rattle.table.specs.Positions.{each, predOf, predLength, predsIn, predsLength, typeCount, predCount, firstPredAt, diagramOf, Walkable}
+use Rattle.table.specs.Positions.{predOf, predLength, predsIn, predsLength, typeCount, predCount, firstPredAt, diagramOf, Walkable}
 use Rattle.table.specs.Cursors.{Ahead, rolesAhead, groupsAhead}
 
 -- ---- one number
@@ -26,26 +28,6 @@ pred-count-is t en ei er = er ∙ ap (λ (m : ℕ). getD (drop (2 + 6 * m) t) 0 
 
 pub pred-count-few : (t : List ℕ) {r : ℕ} → Walkable t → r ≡ predCount t → r ≤ 32
 pred-count-few t w e = rw e (w .few-preds)
-
--- ---- lines
-
-module _ {A : Type 0} (make : List ℕ → A) (k : ℕ) where
-  pub each-more : (t : List ℕ) (at n : ℕ) → 0 < n → each make k n (drop at t) ≡ make (drop at t) ∷ each make k (n - 1) (drop (at + k) t)
-  unfolding each
-  each-more t at zero h = absurd (omega arith)
-  each-more t at (suc n) h =
-      let e : n ≡ suc n - 1 = omega arith in
-      ap₂ {C = List A} (λ m s. make (drop at t) ∷ each make k m s) e (drop-drop k at t)
-
-  pub each-none : (n : ℕ) (s : List ℕ) → n ≤ 0 → each make k n s ≡ []
-  unfolding each
-  each-none zero s h = refl
-  each-none (suc n) s h = absurd (omega arith)
-
-  pub each-length : (n : ℕ) (s : List ℕ) → length (each make k n s) ≡ n
-  unfolding each
-  each-length zero s = refl
-  each-length (suc n) s = ap suc (each-length n (drop k s))
 
 -- ---- predicates; `e` is where the next one starts
 

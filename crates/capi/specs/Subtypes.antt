@@ -5,6 +5,7 @@ use mathlib.Core.Path.{_≡_}
 use mathlib.Core.List.{List, [], _∷_}
 use Rattle.counting.specs.Laws.Index.{At}
 use Rattle.orm.specs.Diagram.{ObjectType, index}
+use Rattle.orm.specs.Sets.{upperOfType}
 use Rattle.orm.specs.Populate.{size}
 use Rattle.orm.specs.Calls.{validateCall}
 use Rattle.orm.specs.Meaning.{MustPlay}
@@ -19,10 +20,11 @@ HasValidated t cells four = four ≡ verdictNumbers (validateCall t cells)
 
 -- Of every table of a well-formed diagram
 pub record SubtypesTold : Type 0 where
-  -- 'a non-independent subtype that plays no role is free of the sum limit': check writes for it the smaller of its MAX and its supertype's size
+  -- 'a non-independent subtype that plays no role is free of the sum limit': check writes for it the smaller of its starting upper
+  -- bound and its supertype's size
   pub settles : {t four before after : List ℕ} (x : TableOf t) → Told t settledSizes four before after
       → {rounds n : ℕ} → four ≡ 0 ∷ 0 ∷ rounds ∷ n ∷ [] → {a : ℕ} {type : ObjectType} → At type (x .diagram .types) a → FreeSubtype (x .diagram) (suc a) type
-      → size after a ≡ min (type .max) (size after (index (type .super)))
+      → size after a ≡ min (upperOfType type) (size after (index (type .super)))
   -- 'and of K10': validating names with it a type that must play, and no other
   pub validated : {t : List ℕ} (cells : List ℕ) {four : List ℕ} (x : TableOf t) → HasValidated t cells four → {number : ℕ} → four ≡ 0 ∷ 0 ∷ 10 ∷ number ∷ []
       → (a : ℕ) × (type : ObjectType) × At type (x .diagram .types) a × (number ≡ suc a) × MustPlay (x .diagram) number type

@@ -14,7 +14,8 @@ use Rattle.counting.specs.Terms.{NoRepeats, _∈_}
 use Rattle.orm.specs.Constraints.{Played, allPlayed, played}
 use Rattle.orm.specs.Diagram.{Diagram, ObjectType, Role, allRoles}
 use Rattle.orm.specs.Meaning.{M10}
-use Rattle.orm.specs.Populate.{firstValue, population, rows, size, takenBefore, typeValues}
+use Rattle.orm.specs.Supertypes.{firstValue}
+use Rattle.orm.specs.Populate.{population, rows, size, takenBefore, typeValues}
 use Rattle.orm.specs.Laws.Select.{of-select, select-no-repeats}
 use Rattle.orm.specs.Sets.{Placed, firstGroup, firstPred, firstRole, placed, rolesOfType}
 use Rattle.complete.specs.Indices.{index-onto}

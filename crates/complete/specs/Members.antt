@@ -12,7 +12,8 @@ use Rattle.counting.specs.Totals.{sumOver}
 use Rattle.pairing.specs.Laws.Mod.{add-right-mod-cancel}
 use Rattle.pairing.specs.Laws.Walks.{once-turned}
 use Rattle.orm.specs.Diagram.{Diagram, Role, index}
-use Rattle.orm.specs.Populate.{firstValue, memberOf, size, takenBefore, typeValues}
+use Rattle.orm.specs.Supertypes.{firstValue}
+use Rattle.orm.specs.Populate.{memberOf, size, takenBefore, typeValues}
 use Rattle.orm.specs.Sets.{rolesOfType}
 use Rattle.complete.specs.Types.{values-iff}
 

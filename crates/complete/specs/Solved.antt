@@ -72,8 +72,8 @@ in-onlyIf b l e = rw e (here refl)
 module _ {d : Diagram} {c : List ℕ} (s : Solved d c) where
   -- ---- bounds
 
-  pub type-form : {a : ℕ} {t : ObjectType} → At t (d .types) a → TypeForm (1 + a) t
-  type-form h = each-from-at TypeForm 1 (s .form .types) h
+  pub type-form : {a : ℕ} {t : ObjectType} → At t (d .types) a → TypeForm (d .types) (1 + a) t
+  type-form h = each-from-at (TypeForm (d .types)) 1 (s .form .types) h
 
   pub count : length c ≡ length (d .types) + length (d .preds) + length (allRoles d) + length (allGroups d)
   unfolding lower

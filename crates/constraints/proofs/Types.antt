@@ -1,13 +1,14 @@
 -- K1 to K4 of the type at `ty` in the table, with its block at `at` in the cells.
 use Prim.Native.Nat.{ℕ}
 use mathlib.Core.Path.{_≡_, ap, _∙_}
-use mathlib.Core.Bool.{Bool, true}
+use mathlib.Core.Bool.{Bool, true, false, not}
 use mathlib.Core.List.{List}
 use lib.Dec.{eqb}
 use lib.ListN.{length, getD, drop}
-use borrow.Author.Tests.{ne-eqb}
+use borrow.Author.Tests.{ne-eqb, not-true, not-false}
 use Rattle.counting.specs.Distinct.{all, within, allDiffer}
 use Rattle.orm.specs.Diagram.{ObjectType, Diagram, isRoot}
+use Rattle.orm.specs.Supertypes.{hasRange}
 use Rattle.orm.specs.Form.{typeOf, _to_, inRange}
 use Rattle.orm.specs.Population.{Population}
 use Rattle.orm.specs.Constraints.{membersOf, K1, K2, K3, K4, K10}
@@ -27,11 +28,11 @@ module _ (t s : List ℕ) (ty at : ℕ) (c : Column) {b : Bool} where
   unfolding K2
   k2-is l h n e = rw (← l, ← h, ← n) e
 
-  pub k3-root : {above low high : ℕ} → above ≡ getD (drop ty t) 4 0 → above ≡ 0 → low ≡ getD (drop ty t) 2 0 → high ≡ getD (drop ty t) 3 0
-      → valuesIn s c ≡ membersAt (drop at s) → b ≡ all (inRange (low to high)) (valuesIn s c)
+  pub k3-range : {low high : ℕ} {ranged : Bool} → ranged ≡ hasRange (typeOf (drop ty t)) → not ranged ≡ false → low ≡ getD (drop ty t) 2 0
+      → high ≡ getD (drop ty t) 3 0 → valuesIn s c ≡ membersAt (drop at s) → b ≡ all (inRange (low to high)) (valuesIn s c)
       → b ≡ K3 (typeOf (drop ty t)) (membersAt (drop at s))
-  unfolding K3 isRoot
-  k3-root a z l h m e = rw (← l, ← h, ← m, ← a, z) e
+  unfolding K3
+  k3-range {ranged = ranged} r n l h m e = rw (← r, not-false ranged n, K3, ← l, ← h, ← m) e
 
   pub k4-sub : {above : ℕ} (o : Column) → above ≡ getD (drop ty t) 4 0 → (above ≡ 0 → ⊥) → valuesIn s c ≡ membersAt (drop at s)
       → valuesIn s o ≡ membersOf (populationOf t s) above → b ≡ within eqb (valuesIn s c) (valuesIn s o)
@@ -39,12 +40,12 @@ module _ (t s : List ℕ) (ty at : ℕ) (c : Column) {b : Bool} where
   unfolding K4 isRoot
   k4-sub {above} o a n m q e = rw (← a, ne-eqb above 0 n, K4, isRoot, ← a, ← m, ← q) e
 
-module _ (t s : List ℕ) (ty at : ℕ) {above : ℕ} where
-  pub k3-sub : above ≡ getD (drop ty t) 4 0 → (above ≡ 0 → ⊥) → true ≡ K3 (typeOf (drop ty t)) (membersAt (drop at s))
-  unfolding K3 isRoot
-  k3-sub a n = rw (← a, ne-eqb above 0 n, K3, isRoot)
+module _ (t s : List ℕ) (ty at : ℕ) where
+  pub k3-none : {ranged : Bool} → ranged ≡ hasRange (typeOf (drop ty t)) → not ranged ≡ true → true ≡ K3 (typeOf (drop ty t)) (membersAt (drop at s))
+  unfolding K3
+  k3-none {ranged} r n = rw (← r, not-true ranged n, K3)
 
-  pub k4-root : above ≡ getD (drop ty t) 4 0 → above ≡ 0 → true ≡ K4 (populationOf t s) (typeOf (drop ty t)) (membersAt (drop at s))
+  pub k4-root : {above : ℕ} → above ≡ getD (drop ty t) 4 0 → above ≡ 0 → true ≡ K4 (populationOf t s) (typeOf (drop ty t)) (membersAt (drop at s))
   unfolding K4 isRoot
   k4-root a z = rw (← a, z)
 

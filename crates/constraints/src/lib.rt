@@ -47,12 +47,12 @@ fn type_size(t: &[u32], cells: &[u32], ty: usize, at: usize) -> bool
     )
 }
 
-// K3: a root's values are FIRST to LAST.
-fn root_values(t: &[u32], cells: &[u32], ty: usize, at: usize) -> bool
+// K3: the values of a type that gives FIRST and LAST are FIRST to LAST.
+fn values_in_range(t: &[u32], cells: &[u32], ty: usize, at: usize) -> bool
     requires { ⌜ Walkable (now t) ⌝ }
     ensures { λ r. ⌜ r ≡ K3 (typeOf (drop ty (now (t .entry)))) (membersAt (drop at (now (cells .entry)))) ⌝ }
 {
-    if table::field(t, ty, 4) != 0 {
+    if !supertypes::has_range(t, ty) {
         return true;
     }
     let members = blocks::members(cells, at);
@@ -278,7 +278,7 @@ fn type_keeps(k: u32, t: &[u32], cells: &[u32], ty: usize, at: usize, number: u3
     match k {
         1 => values_differ(t, cells, ty, at),
         2 => type_size(t, cells, ty, at),
-        3 => root_values(t, cells, ty, at),
+        3 => values_in_range(t, cells, ty, at),
         4 => within_super(t, cells, ty, at),
         _ => members_play(t, cells, ty, at, number),
     }

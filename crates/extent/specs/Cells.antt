@@ -27,18 +27,18 @@ use Rattle.orm.specs.Laws.Rounds.{own-bounds}
 use Rattle.guarantee.specs.Ends.{sized, populate-ends, settled-unsatisfiable, settled-fixpoint}
 
 -- a size cell and at most 4,096 values for each type
-type-cells : (n : ℕ) (ts : List ObjectType) (os : List (List ℕ)) → length os ≡ length ts → EachFrom TypeForm n ts → EachType M2 n ts os
-    → length (flatMap cellsOfType os) ≤ 4097 * length ts
+type-cells : (us : List ObjectType) (n : ℕ) (ts : List ObjectType) (os : List (List ℕ)) → length os ≡ length ts → EachFrom (TypeForm us) n ts
+    → EachType M2 n ts os → length (flatMap cellsOfType os) ≤ 4097 * length ts
 unfolding flatMap cellsOfType
-type-cells n [] [] e f m = omega arith
-type-cells n [] (vs ∷ os) e f m = absurd (omega arith)
-type-cells n (t ∷ ts) [] e f m = absurd (omega arith)
-type-cells n (t ∷ ts) (vs ∷ os) e f m = omega (
+type-cells us n [] [] e f m = omega arith
+type-cells us n [] (vs ∷ os) e f m = absurd (omega arith)
+type-cells us n (t ∷ ts) [] e f m = absurd (omega arith)
+type-cells us n (t ∷ ts) (vs ∷ os) e f m = omega (
   arith,
   length-append vs (flatMap cellsOfType os),
   f .0 .most,
   m .0 .1,
-  type-cells (suc n) ts os (omega arith) (f .1) (m .1),
+  type-cells us (suc n) ts os (omega arith) (f .1) (m .1),
 )
 
 -- at most 4,096 values for each role
@@ -73,7 +73,7 @@ module _ (d : Diagram) (form : WellFormed d) where
         arith,
         ap length (v .cells-of),
         length-append (flatMap cellsOfType (o .types)) (flatMap cellsOfPred (o .preds)),
-        type-cells 1 (d .types) (o .types) (v .shaped .types) (form .types) (v .meets .k2),
+        type-cells (d .types) 1 (d .types) (o .types) (v .shaped .types) (form .types) (v .meets .k2),
         pred-cells (length (d .types)) (d .preds) (o .preds) (form .preds) (v .meets .k6) (v .shaped .preds),
         form .typeCount .1,
         form .predCount .1,

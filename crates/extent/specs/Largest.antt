@@ -13,7 +13,8 @@ use Rattle.fixpoint.specs.Limits.{fixpoint}
 use Rattle.orm.specs.Diagram.{ObjectType, Role, Predicate, Diagram}
 use Rattle.orm.specs.Sets.{Placed, placed, verdict}
 use Rattle.orm.specs.Population.{cellsOfType, cellsOfPred, cells}
-use Rattle.orm.specs.Populate.{size, firstValue, typeValues, row, rows, population}
+use Rattle.orm.specs.Supertypes.{firstValue}
+use Rattle.orm.specs.Populate.{size, typeValues, row, rows, population}
 use Rattle.orm.specs.WellFormed.{WellFormed}
 use Rattle.orm.specs.Cases.All.{everything}
 use Rattle.orm.specs.Laws.Shape.{flatten-length}

@@ -6,11 +6,11 @@ use mathlib.Core.Option.{Option, none, some}
 use mathlib.Core.List.{List, [], _∷_}
 use lib.Dec.{leb, ltb, eqb}
 use lib.ListN.{getD}
-use Rattle.orm.specs.Diagram.{LineKind, isRoot, typeLine, predLine, roleLine, freqLine, endLine}
-use Rattle.orm.specs.Form.{ranges, inRanges, Test, _unless_, firstOf, mostRoles, mostGroups, countOf, typeOf, roleOf, groupOf, headOf, valuesInOrder, typeTests, predTests, roleTests, endTests}
+use Rattle.orm.specs.Diagram.{LineKind, typeLine, predLine, roleLine, freqLine, endLine}
+use Rattle.orm.specs.Form.{ranges, inRanges, Test, _unless_, firstOf, mostRoles, mostGroups, countOf, typeOf, roleOf, groupOf, headOf, predTests, roleTests, endTests}
 use Rattle.grammar.specs.declared.Verdict.{Verdict}
 use Rattle.grammar.specs.Fault.{faultOf, unlessOf}
-use Rattle.grammar.specs.Step.{inOrder, faultIn, freqTests}
+use Rattle.grammar.specs.Step.{faultIn, typeTestsIf, freqTests}
 
 pub unless-not : (c : ℕ) {b : Bool} (rest : Option ℕ) → b ≡ false → some c ≡ unlessOf c b rest
 unless-not c rest e = rw e
@@ -29,18 +29,17 @@ pub count-verdict : (k : LineKind) (v : List ℕ) {b : Bool} (r : Verdict)
     → faultOf r ≡ unlessOf 2 b none → b ≡ inRanges (ranges k) v → faultOf r ≡ faultIn k v []
 count-verdict k v r e p = cc (then 2 (inRanges (ranges k) v) [] no-more)
 
-pub type-verdict : (own : ℕ) (v : List ℕ) {x₀ x₁ x₂ x₃ x₄ x₅ : ℕ} {b₂ b₃ b₄ b₅ : Bool} (r r₃ r₄ r₅ : Verdict)
+pub type-verdict : (own : ℕ) (ordered : Bool) (v : List ℕ) {x₀ x₁ x₅ : ℕ} {b₂ b₃ b₄ : Bool} (r r₃ r₄ r₅ : Verdict)
     → faultOf r ≡ unlessOf 2 b₂ (faultOf r₃) → b₂ ≡ inRanges (ranges typeLine) v
     → faultOf r₃ ≡ unlessOf 3 b₃ (faultOf r₄) → b₃ ≡ ltb x₅ own → x₅ ≡ getD v 4 0
     → faultOf r₄ ≡ unlessOf 4 b₄ (faultOf r₅) → b₄ ≡ leb x₀ x₁ → x₀ ≡ getD v 0 0 → x₁ ≡ getD v 1 0
-    → faultOf r₅ ≡ unlessOf 4 b₅ none → b₅ ≡ inOrder x₂ x₃ x₄ → x₂ ≡ getD v 2 0 → x₃ ≡ getD v 3 0 → x₄ ≡ getD v 4 0
-    → faultOf r ≡ faultIn typeLine v (typeTests own (typeOf v))
-unfolding typeTests valuesInOrder isRoot
-type-verdict own v r r₃ r₄ r₅ h₀ h₁ h₂ h₃ h₄ h₅ h₆ h₇ h₈ h₉ h₁₀ h₁₁ h₁₂ h₁₃ =
+    → faultOf r₅ ≡ unlessOf 4 ordered none
+    → faultOf r ≡ faultIn typeLine v (typeTestsIf ordered own (typeOf v))
+type-verdict own ordered v r r₃ r₄ r₅ h₀ h₁ h₂ h₃ h₄ h₅ h₆ h₇ h₈ h₉ =
     cc (then 2 (inRanges (ranges typeLine) v) _
     (then 3 (ltb (getD v 4 0) own) _
     (then 4 (leb (getD v 0 0) (getD v 1 0)) _
-    (then 4 (inOrder (getD v 2 0) (getD v 3 0) (getD v 4 0)) [] no-more))))
+    (then 4 ordered [] no-more))))
 
 pub pred-verdict : (roles groups : ℕ) (v : List ℕ) {x₀ x₁ x₂ x₃ : ℕ} {b₂ b₃ b₄ b₅ : Bool} (r r₃ r₄ r₅ : Verdict)
     → faultOf r ≡ unlessOf 2 b₂ (faultOf r₃) → b₂ ≡ inRanges (ranges predLine) v

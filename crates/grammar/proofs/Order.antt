@@ -5,10 +5,10 @@ use mathlib.Core.Bool.{Bool, true, false}
 use mathlib.Core.Option.{Option}
 use mathlib.Core.List.{List, []}
 use native.Mathlib.Omega.{arith}
-use lib.ListN.{length, getD}
+use lib.ListN.{length, getD, drop}
 use Rattle.orm.specs.Diagram.{diagramLine, typesLine, typeLine, predsLine, predLine, roleLine, freqLine, endLine}
-use Rattle.orm.specs.Form.{countOf, typeOf, roleOf, groupOf, headOf, typeTests, predTests, roleTests, named, groupTests, endTests}
-use Rattle.reading.specs.Walk.{rolesAt}
+use Rattle.orm.specs.Form.{countOf, typeOf, roleOf, groupOf, headOf, valuesInOrder, typeTests, predTests, roleTests, named, groupTests, endTests}
+use Rattle.reading.specs.Walk.{typesIn, typeTestsAt, rolesAt}
 use Rattle.grammar.specs.declared.Fault.{Fault}
 use Rattle.grammar.specs.declared.Verdict.{Verdict}
 use Rattle.grammar.specs.declared.Verdict.the-variants as verdict
@@ -19,7 +19,7 @@ use Rattle.grammar.specs.declared.Awaited.the-variants.{AtDiagram, AtTyp
 use Rattle.grammar.specs.declared.Step.{Step}
 use Rattle.grammar.specs.Fault.{numberOf, faultOf}
 use Rattle.grammar.specs.Awaited.{countsOf, blockOf, withLeft, typesFrom, predsLeft, predsFrom, groupsFrom, rolesFrom, kindAt, fieldsAt, isGoing, countsAt}
-use Rattle.grammar.specs.Step.{faultIn, freqTests, testsAt, nextAt, refusing, going, stepOf, stepped, stepAt, predStep}
+use Rattle.grammar.specs.Step.{faultIn, typeTestsIf, freqTests, testsAt, nextAt, refusing, going, stepOf, stepped, stepAt, typeStep, predStep}
 use Rattle.grammar.specs.Room.{RoomAt, Room}
 
 pub fine-next : {v : Verdict} (p : Awaited) → v ≡ verdict.Fine → going p ≡ stepped (faultOf v) p
@@ -64,6 +64,12 @@ roles-none b left e w = rw e w
 pub roles-some : (b : Block) (left : ℕ) → (left ≡ 0 → ⊥) → AtRole b (left - 1) ≡ rolesFrom b left
 roles-some b zero n = absurd (n refl)
 roles-some b (suc left) n = let p : suc left - 1 ≡ left = omega arith in ap (λ (k : ℕ). AtRole b k) p
+
+-- ---- a type's line
+
+pub type-step : (t own left : ℕ) (ordered : Bool) (v : List ℕ) (r : Step) {o : Option ℕ} {next : Awaited} → stepOf r ≡ stepped o next
+    → o ≡ faultIn typeLine v (typeTestsIf ordered own (typeOf v)) → next ≡ typesFrom t (own + 1) left → stepOf r ≡ typeStep t own left ordered v
+type-step t own left ordered v r w f g = rw (← f, ← g) w
 
 -- ---- a predicate's line
 
@@ -156,11 +162,6 @@ module _ (s v : List ℕ) (r : Step) {o : Option ℕ} where
       → o ≡ faultIn typesLine v [] → next ≡ typesFrom x 1 x → x ≡ getD v 0 0 → stepOf r ≡ stepAt AtTypes s v
   types-leads w f g q = leads AtTypes w f (rw q at g)
 
-  pub type-leads : {next : Awaited} (t own left : ℕ) → stepOf r ≡ stepped o next
-      → o ≡ faultIn typeLine v (typeTests own (typeOf v)) → next ≡ typesFrom t (own + 1) left
-      → stepOf r ≡ stepAt (AtType t own left) s v
-  type-leads t own left w f g = leads (AtType t own left) w f g
-
   pub preds-leads : {next : Awaited} (t : ℕ) {x : ℕ} {c : Counts} → stepOf r ≡ stepped o next
       → o ≡ faultIn predsLine v [] → next ≡ predsFrom c → c ≡ countsOf t x → x ≡ getD v 0 0
       → stepOf r ≡ stepAt (AtPreds t) s v
@@ -192,9 +193,10 @@ module _ {p : Awaited} (s v : List ℕ) (r : Step) where
   unfolding stepAt
   types-arm e w = rw e w
 
-  pub type-arm : (t own left : ℕ) → p ≡ AtType t own left → stepOf r ≡ stepAt (AtType t own left) [] v → stepOf r ≡ stepAt p s v
-  unfolding stepAt
-  type-arm t own left e w = rw e w
+  pub type-arm : (t own left : ℕ) (ordered : Bool) → p ≡ AtType t own left → stepOf r ≡ typeStep t own left ordered v
+      → ordered ≡ valuesInOrder (typesIn (own - 1) (drop 2 s)) (typeOf v) → stepOf r ≡ stepAt p s v
+  unfolding stepAt typeTestsAt typeTests
+  type-arm t own left ordered e w o = rw e (rw o at w)
 
   pub preds-arm : (t : ℕ) → p ≡ AtPreds t → stepOf r ≡ stepAt (AtPreds t) [] v → stepOf r ≡ stepAt p s v
   unfolding stepAt

@@ -1,13 +1,13 @@
 -- The tests of the line at a place, and where it leads.
 use Prim.Native.Nat.{ℕ, _+_}
-use mathlib.Core.Bool.{Bool, true, false, _&&_}
+use mathlib.Core.Bool.{Bool}
 use mathlib.Core.Option.{Option, none, some}
 use mathlib.Core.List.{List, [], _∷_}
-use lib.Dec.{leb, eqb}
+use lib.Dec.{leb, ltb}
 use lib.ListN.{length, getD}
-use Rattle.orm.specs.Diagram.{Frequency, LineKind, predLine}
-use Rattle.orm.specs.Form.{Test, _unless_, firstOf, ranges, inRanges, countOf, typeOf, roleOf, groupOf, headOf, typeTests, predTests, roleTests, groupTests, endTests}
-use Rattle.reading.specs.Walk.{rolesAt}
+use Rattle.orm.specs.Diagram.{ObjectType, Frequency, LineKind, typeLine, predLine}
+use Rattle.orm.specs.Form.{Test, _unless_, firstOf, ranges, inRanges, countOf, typeOf, roleOf, groupOf, headOf, predTests, roleTests, groupTests, endTests}
+use Rattle.reading.specs.Walk.{typeTestsAt, rolesAt}
 use Rattle.grammar.specs.declared.Counts.{Counts}
 use Rattle.grammar.specs.declared.Awaited.{Awaited}
 use Rattle.grammar.specs.declared.Awaited.the-variants.{AtDiagram, AtTypes, AtType, AtPreds, AtPred, AtRole, AtFreq, AtEnd, Over}
@@ -16,13 +16,13 @@ use Rattle.grammar.specs.declared.Step.the-variants.{Refused, Next}
 use Rattle.grammar.specs.Fault.{numberOf}
 use Rattle.grammar.specs.Awaited.{countsOf, blockOf, typesFrom, predsFrom, groupsFrom, rolesFrom, kindAt}
 
--- The order of a type's values, as of FIRST, LAST and SUPER
-abbrev pub inOrder : ℕ → ℕ → ℕ → Bool
-inOrder first last super = elim (eqb super 0) [ true ↦ leb first last | false ↦ eqb first 0 && eqb last 0 ]
-
 -- The first fault of a line of this kind with the numbers `v`: 2 for its ranges, then its other tests
 abbrev pub faultIn : LineKind → List ℕ → List Test → Option ℕ
 faultIn k v tests = firstOf (2 unless inRanges (ranges k) v ∷ tests)
+
+-- The tests of a `type` line, where it is known whether its FIRST and LAST may stand there
+abbrev pub typeTestsIf : Bool → ℕ → ObjectType → List Test
+typeTestsIf ordered own t = 3 unless ltb (t .super) own ∷ 4 unless leb (t .min) (t .max) ∷ 4 unless ordered ∷ []
 
 -- The tests of a `freq` line, where it is known whether a role names the group
 abbrev pub freqTests : Bool → Frequency → List Test
@@ -32,7 +32,7 @@ freqTests used f = 4 unless leb (f .fmin) (f .fmax) ∷ 5 unless used ∷ []
 abbrev pub testsAt : Awaited → List ℕ → List ℕ → List Test
 testsAt AtDiagram s v = []
 testsAt AtTypes s v = []
-testsAt (AtType types own left) s v = typeTests own (typeOf v)
+testsAt (AtType types own left) s v = typeTestsAt own s v
 testsAt (AtPreds types) s v = []
 testsAt (AtPred c) s v = predTests (c .roles) (c .groups) (headOf v)
 testsAt (AtRole b left) s v = roleTests (b .counts .types) (b .groups) (roleOf v)
@@ -67,6 +67,10 @@ stepped (some c) p = refusing c
 -- Of the line with the numbers `v`, after lines with the numbers `s`
 unfoldable pub stepAt : Awaited → List ℕ → List ℕ → Consequence
 stepAt p s v = stepped (faultIn (kindAt p) v (testsAt p s v)) (nextAt p s v)
+
+-- Of the `type` line with the numbers `v`, where it is known whether its FIRST and LAST may stand there
+abbrev pub typeStep : ℕ → ℕ → ℕ → Bool → List ℕ → Consequence
+typeStep types own left ordered v = stepped (faultIn typeLine v (typeTestsIf ordered own (typeOf v))) (typesFrom types (own + 1) left)
 
 -- Of the `pred` line with the numbers `v`, after `read` numbers
 abbrev pub predStep : Counts → ℕ → List ℕ → Consequence

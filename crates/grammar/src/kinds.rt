@@ -1,5 +1,5 @@
 // Where a line of each kind leads, or its first fault. Only a `freq` line looks at the numbers before it, for the roles that name
-// its group; of the others the contract speaks of none.
+// its group; of a `type` line it is handed in whether its FIRST and LAST may stand there, which the types before it decide.
 use crate::Awaited;
 use crate::Block;
 use crate::Counts;
@@ -24,9 +24,9 @@ ghost use mathlib.Core.Path.{_≡_};
 ghost use mathlib.Core.List.{[]};
 ghost use Prim.Native.Nat.{_≤_};
 ghost use lib.ListN.{length};
-ghost use Rattle.grammar.specs.declared.Awaited.the-variants.{AtDiagram, AtTypes, AtType, AtPreds, AtRole, AtFreq, AtEnd};
+ghost use Rattle.grammar.specs.declared.Awaited.the-variants.{AtDiagram, AtTypes, AtPreds, AtRole, AtFreq, AtEnd};
 ghost use Rattle.grammar.specs.Fault.{faultOf};
-ghost use Rattle.grammar.specs.Step.{stepOf, stepped, stepAt, predStep};
+ghost use Rattle.grammar.specs.Step.{stepOf, stepped, stepAt, typeStep, predStep};
 
 // The fault, or the next place.
 fn after_verdict(verdict: Verdict, next: Awaited) -> Step
@@ -56,13 +56,16 @@ pub fn types_line(line: &[u32]) -> Step
     )
 }
 
-// The type with the number `own`.
-pub fn type_line(types: usize, own: usize, left: usize, line: &[u32]) -> Step
+// The type with the number `own`; `ordered`: its FIRST and LAST may stand there.
+pub fn type_line(types: usize, own: usize, left: usize, ordered: bool, line: &[u32]) -> Step
     requires { ⌜ own ≤ 32 ⌝ }
     requires { ⌜ length (now line) ≡ 6 ⌝ }
-    ensures { λ r. ⌜ stepOf r ≡ stepAt (AtType types own left) [] (now (line .entry)) ⌝ }
+    ensures { λ r. ⌜ stepOf r ≡ typeStep types own left ordered (now (line .entry)) ⌝ }
 {
-    after_verdict(type_verdict(own, line), types_from(types, own + 1, left))
+    after_verdict(
+        type_verdict(own, ordered, line),
+        types_from(types, own + 1, left),
+    )
 }
 
 pub fn preds_line(types: usize, line: &[u32]) -> Step

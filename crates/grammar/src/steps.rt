@@ -10,6 +10,7 @@ use crate::kinds::preds_line;
 use crate::kinds::role_line;
 use crate::kinds::type_line;
 use crate::kinds::types_line;
+use crate::tests::values_in_order;
 ghost use mathlib.Core.Path.{_≡_};
 ghost use mathlib.Core.Bool.{true};
 ghost use Prim.Native.Nat.{_+_, _≤_};
@@ -28,7 +29,10 @@ fn check_line(place: Awaited, before: &[u32], line: &[u32]) -> Step
     match place {
         Awaited::AtDiagram => diagram_line(line),
         Awaited::AtTypes => types_line(line),
-        Awaited::AtType { types, own, left } => type_line(types, own, left, line),
+        Awaited::AtType { types, own, left } => {
+            let ordered = values_in_order(own, before, line);
+            type_line(types, own, left, ordered, line)
+        }
         Awaited::AtPreds { types } => preds_line(types, line),
         Awaited::AtPred { counts } => pred_line(counts, before.len(), line),
         Awaited::AtRole { block, left } => role_line(block, left, line),
@@ -59,7 +63,10 @@ fn check_cut_line(place: Awaited, before: &[u32], line: &[u32]) -> Step
     match place {
         Awaited::AtDiagram => diagram_line(line),
         Awaited::AtTypes => types_line(line),
-        Awaited::AtType { types, own, left } => type_line(types, own, left, line),
+        Awaited::AtType { types, own, left } => {
+            let ordered = values_in_order(own, before, line);
+            type_line(types, own, left, ordered, line)
+        }
         Awaited::AtPreds { types } => preds_line(types, line),
         Awaited::AtPred { counts } => pred_line(counts, before.len(), line),
         Awaited::AtRole { block, left } => role_line(block, left, line),

@@ -1,12 +1,11 @@
 // Single numbers and their tests.
 ghost use mathlib.Core.Path.{_≡_};
 ghost use mathlib.Core.Bool.{_&&_};
-ghost use Prim.Native.Nat.{_≤_, _<_};
+ghost use Prim.Native.Nat.{_-_, _≤_, _<_};
 ghost use lib.Dec.{leb, ltb, eqb};
-ghost use lib.ListN.{length, getD};
-ghost use Rattle.orm.specs.Form.{named};
-ghost use Rattle.reading.specs.Walk.{rolesAt};
-ghost use Rattle.grammar.specs.Step.{inOrder};
+ghost use lib.ListN.{length, getD, drop};
+ghost use Rattle.orm.specs.Form.{typeOf, withinSuper, valuesInOrder, named};
+ghost use Rattle.reading.specs.Walk.{typesIn, rolesAt};
 
 // The number at `i`; 0 behind the end.
 fn item(numbers: &[u32], i: usize) -> usize
@@ -61,15 +60,35 @@ fn both(a: bool, b: bool) -> bool
     if a { b } else { false }
 }
 
-// A root has FIRST at most LAST, a subtype 0,0.
-pub fn values_in_order(first: usize, last: usize, parent: usize) -> bool
-    ensures { λ r. ⌜ r ≡ inOrder first last parent ⌝ }
+// Whether FIRST on a subtype's line is its root's, and LAST not above that of the nearest type above it that gives one; the
+// lines of `count` types stand in `before`.
+fn within_super(count: u32, before: &[u32], line: &[u32]) -> bool
+    requires { ⌜ length (now line) ≡ 6 ⌝ }
+    ensures { λ r. ⌜ r ≡ withinSuper (typesIn count (drop 2 (now (before .entry)))) (typeOf (now (line .entry))) ⌝ }
 {
-    if parent == 0 {
-        at_most(first, last)
-    } else {
-        both(equal(first, 0), equal(last, 0))
+    let above = supertypes::index(line[4]);
+    let first = supertypes::first_value(before, count, above);
+    let last = supertypes::last_value(before, count, above);
+    both(line[2] == first, line[3] <= last)
+}
+
+// Whether FIRST and LAST may stand on the line of the type with the number `own`: in order and, on a subtype, within its
+// supertype's; or 0,0 for none.
+pub fn values_in_order(own: usize, before: &[u32], line: &[u32]) -> bool
+    requires { ⌜ own ≤ 32 ⌝ }
+    requires { ⌜ length (now line) ≡ 6 ⌝ }
+    ensures { λ r. ⌜ r ≡ valuesInOrder (typesIn (own - 1) (drop 2 (now (before .entry)))) (typeOf (now (line .entry))) ⌝ }
+{
+    if !supertypes::has_range(line, 0) {
+        return true;
     }
+    if line[3] < line[2] {
+        return false;
+    }
+    if line[4] == 0 {
+        return true;
+    }
+    within_super(supertypes::index(own as u32), before, line)
 }
 
 // Whether one of the `count` roles whose numbers start at `first` is in the group.

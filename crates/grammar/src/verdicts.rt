@@ -6,17 +6,16 @@ use crate::tests::at_most;
 use crate::tests::below;
 use crate::tests::equal;
 use crate::tests::number;
-use crate::tests::values_in_order;
 use lexer::Kind;
 ghost use mathlib.Core.Path.{_≡_};
 ghost use mathlib.Core.List.{[]};
 ghost use Prim.Native.Nat.{_≤_};
 ghost use lib.ListN.{length};
 ghost use Rattle.orm.specs.Diagram.{typeLine, predLine, roleLine, freqLine, endLine};
-ghost use Rattle.orm.specs.Form.{typeOf, roleOf, groupOf, headOf, countOf, typeTests, predTests, roleTests, endTests};
+ghost use Rattle.orm.specs.Form.{typeOf, roleOf, groupOf, headOf, countOf, predTests, roleTests, endTests};
 ghost use Rattle.lexer.specs.Cuts.{kindOf};
 ghost use Rattle.grammar.specs.Fault.{numberOf, faultOf, unlessOf};
-ghost use Rattle.grammar.specs.Step.{faultIn, freqTests};
+ghost use Rattle.grammar.specs.Step.{faultIn, typeTestsIf, freqTests};
 
 // The fault unless the test holds; else what the rest of the tests say.
 fn unless(fault: Fault, holds: bool, rest: Verdict) -> Verdict
@@ -32,11 +31,11 @@ pub fn count_verdict(key: Kind, line: &[u32]) -> Verdict
     unless(Fault::OutOfRange, in_ranges(key, line), Verdict::Fine)
 }
 
-pub fn type_verdict(own: usize, line: &[u32]) -> Verdict
+// `ordered`: its FIRST and LAST may stand there.
+pub fn type_verdict(own: usize, ordered: bool, line: &[u32]) -> Verdict
     requires { ⌜ length (now line) ≡ 6 ⌝ }
-    ensures { λ r. ⌜ faultOf r ≡ faultIn typeLine (now (line .entry)) (typeTests own (typeOf (now (line .entry)))) ⌝ }
+    ensures { λ r. ⌜ faultOf r ≡ faultIn typeLine (now (line .entry)) (typeTestsIf ordered own (typeOf (now (line .entry)))) ⌝ }
 {
-    let ordered = values_in_order(number(line, 2), number(line, 3), number(line, 4));
     let sized = at_most(number(line, 0), number(line, 1));
     let sizes = unless(
         Fault::Disordered,

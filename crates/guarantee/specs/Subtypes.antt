@@ -14,7 +14,7 @@ use Rattle.counting.specs.Laws.Index.{At}
 use Rattle.fixpoint.specs.Limits.{Limit, sum}
 use Rattle.orm.specs.Diagram.{ObjectType, Diagram, isRoot, isIndependent, index, allRoles}
 use Rattle.orm.specs.Text.{tableLine}
-use Rattle.orm.specs.Sets.{rolesOfType, atMost, onlyIf, limitsOfType, limits}
+use Rattle.orm.specs.Sets.{upperOfType, rolesOfType, atMost, onlyIf, limitsOfType, limits}
 use Rattle.orm.specs.Population.{Population}
 use Rattle.orm.specs.Populate.{size}
 use Rattle.orm.specs.Constraints.{valuesInRoles, allPlayed, K10, breaks}
@@ -54,9 +54,9 @@ RefusesAtOnce call = (space : ℕ) → (place : ℕ) × (round : ℕ) × (round 
 
 -- What the calls make of a table of the diagram
 pub record TableSubtypes (table : List ℕ) (d : Diagram) : Type 0 where
-  -- 'free of the sum limit': it settles at the smaller of its MAX and its supertype's size
+  -- 'free of the sum limit': it settles at the smaller of its starting upper bound and its supertype's size
   pub settles : {a : ℕ} {t : ObjectType} → At t (d .types) a → FreeSubtype d (suc a) t → (p : Populated table d)
-      → size (p .settled) a ≡ min (t .max) (size (p .settled) (index (t .super)))
+      → size (p .settled) a ≡ min (upperOfType t) (size (p .settled) (index (t .super)))
   -- 'and of K10': with it validating names a type that must play, and no other
   pub validated : (s : List ℕ) (number : ℕ) → validateCall table s ≡ accepted (breaks 10 number)
       → (a : ℕ) × (t : ObjectType) × At t (d .types) a × (number ≡ suc a) × MustPlay d number t

@@ -2,30 +2,32 @@
 use Prim.Native.Nat.{ℕ, _+_, _-_, _≤_, _<_, min}
 use native.Mathlib.Omega.{arith}
 use mathlib.Core.Path.{_≡_, refl, sym, ap, _∙_}
+use mathlib.Core.Bool.{Bool, true, false, not}
 use mathlib.Core.List.{List, [], _∷_, _++_, map}
 use lib.ListN.{length, getD, replicate}
-use borrow.Author.Tests.{eq-eqb, ne-eqb}
-use Rattle.orm.specs.Diagram.{ObjectType, Role, Frequency, Predicate, Diagram, isRoot, allRoles, allGroups}
+use borrow.Author.Tests.{not-true, not-false}
+use Rattle.orm.specs.Diagram.{ObjectType, Role, Frequency, Predicate, Diagram, allRoles, allGroups}
+use Rattle.orm.specs.Supertypes.{hasRange}
 use Rattle.orm.specs.Form.{typeOf}
 use Rattle.orm.specs.Sets.{lower, upper, upperOfType}
 use Rattle.buffer.specs.Written.{Wrote}
 use Rattle.buffer.specs.Laws.{wrote-then, wrote-as}
 
-module _ (s : List ℕ) {super most : ℕ} (es : super ≡ getD s 4 0) (em : most ≡ getD s 1 0) where
-  pub upper-subtype : (super ≡ 0 → ⊥) → most ≡ upperOfType (typeOf s)
-  unfolding upperOfType isRoot
-  upper-subtype h = rw (← es, ne-eqb super 0 h, upperOfType) em
+module _ (s : List ℕ) {ranged : Bool} {most : ℕ} (es : ranged ≡ hasRange (typeOf s)) (em : most ≡ getD s 1 0) where
+  pub upper-none : not ranged ≡ true → most ≡ upperOfType (typeOf s)
+  unfolding upperOfType
+  upper-none h = rw (← es, not-true ranged h, upperOfType) em
 
-  module _ {first last values : ℕ} (h : super ≡ 0) (ef : first ≡ getD s 2 0) (el : last ≡ getD s 3 0) (ev : values ≡ last - first + 1) where
-    root : min most values ≡ upperOfType (typeOf s)
-    unfolding upperOfType isRoot
-    root = rw (← es, eq-eqb super 0 h, upperOfType, ev, em, ef, el)
+  module _ {first last values : ℕ} (h : not ranged ≡ false) (ef : first ≡ getD s 2 0) (el : last ≡ getD s 3 0) (ev : values ≡ last - first + 1) where
+    smaller : min most values ≡ upperOfType (typeOf s)
+    unfolding upperOfType
+    smaller = rw (← es, not-false ranged h, upperOfType, ev, em, ef, el)
 
     pub upper-values : values < most → values ≡ upperOfType (typeOf s)
-    upper-values k = let e : values ≡ min most values = omega arith in e ∙ root
+    upper-values k = let e : values ≡ min most values = omega arith in e ∙ smaller
 
     pub upper-most : most ≤ values → most ≡ upperOfType (typeOf s)
-    upper-most k = let e : most ≡ min most values = omega arith in e ∙ root
+    upper-most k = let e : most ≡ min most values = omega arith in e ∙ smaller
 
 map-same : {A : Type 0} (x : ℕ) (ys : List A) → map (λ (y : A). x) ys ≡ replicate (length ys) x
 map-same x [] = refl

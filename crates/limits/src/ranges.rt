@@ -24,7 +24,7 @@ fn type_upper(t: &[u32], p: usize) -> u32
     ensures { λ r. ⌜ r ≡ upperOfType (typeOf (drop p (now (t .entry)))) ⌝ }
 {
     let most = table::number(t, p, 1);
-    if table::number(t, p, 4) != 0 {
+    if !supertypes::has_range(t, p) {
         return most;
     }
     let v = values(table::number(t, p, 2), table::number(t, p, 3));

@@ -7,7 +7,9 @@ pub mod Ranges
 pub mod Sample
 pub mod Buffers
 pub mod Limits
+pub mod Inputs
 pub mod Subtypes
+pub mod SubtypeRanges
 pub mod Several
 pub mod Broken
 pub mod Lines

@@ -8,6 +8,7 @@ use lib.ListN.{length, getD}
 use Rattle.counting.specs.Lists.{mapFrom, same, column, combination}
 use Rattle.counting.specs.Distinct.{all, distinct, occurrences, allDiffer, within}
 use Rattle.orm.specs.Diagram.{ObjectType, Role, Frequency, Predicate, Diagram, isRoot, isMandatory, mustPlay, index}
+use Rattle.orm.specs.Supertypes.{hasRange}
 use Rattle.orm.specs.Form.{_to_, inRange}
 use Rattle.orm.specs.Sets.{rolesInGroup}
 use Rattle.orm.specs.Population.{Population}
@@ -81,9 +82,9 @@ K1 t vs = allDiffer eqb vs
 unfoldable pub K2 : ObjectType → List ℕ → Bool
 K2 t vs = inRange (t .min to t .max) (length vs)
 
--- 'root values in FIRST..LAST'
+-- 'root values in FIRST..LAST', and those of a subtype that gives FIRST and LAST
 unfoldable pub K3 : ObjectType → List ℕ → Bool
-K3 t vs = elim (isRoot t) [ true ↦ all (inRange (t .first to t .last)) vs | false ↦ true ]
+K3 t vs = elim (hasRange t) [ true ↦ all (inRange (t .first to t .last)) vs | false ↦ true ]
 
 -- 'subtype within supertype'
 unfoldable pub K4 : Population → ObjectType → List ℕ → Bool

@@ -3,11 +3,12 @@
 use Prim.Native.Nat.{ℕ, zero, suc, _+_}
 use mathlib.Core.Bool.{Bool, true, false, _&&_, _||_}
 use mathlib.Core.Option.{Option, none, some}
-use mathlib.Core.List.{List, [], _∷_}
+use mathlib.Core.List.{List, [], _∷_, _++_}
 use lib.Dec.{leb, ltb, eqb}
 use lib.ListN.{length, getD}
 use Rattle.counting.specs.Lists.{upFrom}
-use Rattle.orm.specs.Diagram.{ObjectType, Role, Frequency, Predicate, Diagram, LineKind, diagramLine, typesLine, typeLine, predsLine, predLine, roleLine, freqLine, endLine, isRoot, allRoles}
+use Rattle.orm.specs.Diagram.{ObjectType, Role, Frequency, Predicate, Diagram, LineKind, diagramLine, typesLine, typeLine, predsLine, predLine, roleLine, freqLine, endLine, isRoot, index, allRoles}
+use Rattle.orm.specs.Supertypes.{firstValue, hasRange, lastValue}
 use Rattle.orm.specs.Reader.{Reading, rejected, read, Reader, _>>=_, pure, forEach, atEnd, Cut, broken, cut}
 
 -- What a number may be: from a low to a high bound, both taken in; or any number
@@ -82,13 +83,20 @@ pub record PredHead : Type 0 where
 abbrev pub headOf : List ℕ → PredHead
 headOf v = record { min = getD v 0 0; max = getD v 1 0; roles = getD v 2 0; groups = getD v 3 0 }
 
--- 'A type with SUPER 0 is a root; its values are whole numbers FIRST..LAST. A subtype writes 0,0 there'
-unfoldable pub valuesInOrder : ObjectType → Bool
-valuesInOrder t = elim (isRoot t) [ true ↦ leb (t .first) (t .last) | false ↦ eqb (t .first) 0 && eqb (t .last) 0 ]
+-- 'FIRST is its root's FIRST and LAST is not .. above the LAST of the nearest type above it that gives one': of a subtype, after these types
+unfoldable pub withinSuper : List ObjectType → ObjectType → Bool
+withinSuper before t =
+    let above : ℕ = index (t .super) in
+    eqb (t .first) (firstValue before above) && leb (t .last) (lastValue before above)
 
--- of the type with this number: 3 'SUPER not below own number', 4 'MIN above MAX', 'root with FIRST above LAST, subtype not 0,0'
-unfoldable pub typeTests : ℕ → ObjectType → List Test
-typeTests own t = 3 unless ltb (t .super) own ∷ 4 unless leb (t .min) (t .max) ∷ 4 unless valuesInOrder t ∷ []
+-- 'A type with SUPER 0 is a root; its values are whole numbers FIRST..LAST', 'A subtype may now give FIRST and LAST', or 0,0 for none
+unfoldable pub valuesInOrder : List ObjectType → ObjectType → Bool
+valuesInOrder before t = elim (hasRange t) [ true ↦ leb (t .first) (t .last) && (isRoot t || withinSuper before t) | false ↦ true ]
+
+-- of the type with this number, after these types: 3 'SUPER not below own number', 4 'MIN above MAX', 'root with FIRST above LAST', and 'the
+-- subtype pairs that this rule doesn't allow'
+unfoldable pub typeTests : ℕ → List ObjectType → ObjectType → List Test
+typeTests own before t = 3 unless ltb (t .super) own ∷ 4 unless leb (t .min) (t .max) ∷ 4 unless valuesInOrder before t ∷ []
 
 -- after so many roles and groups: 2 'the `pred` line that passes either total is out of range', 4 'MIN above MAX'
 unfoldable pub predTests : ℕ → ℕ → PredHead → List Test
@@ -130,6 +138,14 @@ module _ (next : LineKind → List ℕ → Cut) where
   unfoldable pub count : LineKind → Reader ℕ
   count k = line k countOf (λ n. [])
 
+  -- So many types, after these
+  unfoldable pub typesAfter : List ObjectType → ℕ → Reader (List ObjectType)
+  typesAfter before zero = pure []
+  typesAfter before (suc k) = do
+    t ← line typeLine typeOf (typeTests (suc (length before)) before)
+    ts ← typesAfter (before ++ t ∷ []) k
+    pure (t ∷ ts)
+
   -- A predicate's lines, under so many types, after so many roles and groups
   unfoldable pub predicate : ℕ → ℕ → ℕ → Reader Predicate
   predicate types roles groups = do
@@ -151,7 +167,7 @@ module _ (next : LineKind → List ℕ → Cut) where
   diagramLines = do
     one ← count diagramLine
     t ← count typesLine
-    ts ← forEach (λ (i : ℕ). line typeLine typeOf (typeTests i)) (upFrom 1 t)
+    ts ← typesAfter [] t
     p ← count predsLine
     ps ← predicates t 0 0 p
     let d : Diagram = record { types = ts; preds = ps }

@@ -8,3 +8,4 @@ pub mod Named
 pub mod Cells
 pub mod Bounds
 pub mod Rounds
+pub mod Supertypes

@@ -1,4 +1,5 @@
 pub mod Diagram
+pub mod Supertypes
 pub mod Reader
 pub mod Form
 pub mod Text

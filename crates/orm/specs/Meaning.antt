@@ -37,9 +37,13 @@ M1 number t vs = NoRepeats vs
 abbrev pub M2 : ℕ → ObjectType → List ℕ → Type 0
 M2 number t vs = Between (t .min) (length vs) (t .max)
 
--- K3 'root values in FIRST..LAST'
+-- The type gives FIRST and LAST: a root, or a subtype that does not write 0,0
+abbrev pub HasRange : ObjectType → Type 0
+HasRange t = (t .super ≡ 0) ⊎ (¬ ((t .first ≡ 0) × (t .last ≡ 0)))
+
+-- K3 'root values in FIRST..LAST', and those of a subtype that gives them
 abbrev pub M3 : ℕ → ObjectType → List ℕ → Type 0
-M3 number t vs = t .super ≡ 0 → (v : ℕ) → v ∈ vs → Between (t .first) v (t .last)
+M3 number t vs = HasRange t → (v : ℕ) → v ∈ vs → Between (t .first) v (t .last)
 
 -- K4 'subtype within supertype'
 abbrev pub M4 : Population → ℕ → ObjectType → List ℕ → Type 0

@@ -1,36 +1,15 @@
 -- The population made from a diagram and the sizes of its sets (document 01, 'Filling').
-use Prim.Native.Nat.{ℕ, zero, suc, _+_, _%_}
+use Prim.Native.Nat.{ℕ, _+_, _%_}
 use mathlib.Core.Bool.{true, false}
 use mathlib.Core.List.{List, [], _∷_, map, flatMap, flatten, zipWith}
 use lib.Dec.{eqb}
 use lib.ListN.{length, getD}
 use Rattle.counting.specs.Lists.{upFrom, mapFrom}
 use Rattle.pairing.specs.Pairing.{tuples}
-use Rattle.orm.specs.Diagram.{ObjectType, Role, Diagram, index}
+use Rattle.orm.specs.Diagram.{Role, Diagram, index}
+use Rattle.orm.specs.Supertypes.{firstValue}
 use Rattle.orm.specs.Sets.{Placed, placed, Part, parts, rolesOfType}
 use Rattle.orm.specs.Population.{Population}
-
--- ---- types
-
--- SUPER and FIRST of the type at an index
-unfoldable pub superAt : List ObjectType → ℕ → ℕ
-superAt ts a = getD (map (λ (t : ObjectType). t .super) ts) a 0
-
-unfoldable pub firstAt : List ObjectType → ℕ → ℕ
-firstAt ts a = getD (map (λ (t : ObjectType). t .first) ts) a 0
-
--- The root of the type at an index, itself if it is one; the first argument bounds the steps
-unfoldable pub rootWithin : ℕ → List ObjectType → ℕ → ℕ
-rootWithin zero ts a = a
-rootWithin (suc k) ts a = elim (eqb (superAt ts a) 0) [ true ↦ a | false ↦ rootWithin k ts (index (superAt ts a)) ]
-
--- 'SUPER is below the type's own number', so that `a` steps are enough
-unfoldable pub root : List ObjectType → ℕ → ℕ
-root ts a = rootWithin a ts a
-
--- The first value of the type at an index: 'the FIRST of its root'
-unfoldable pub firstValue : List ObjectType → ℕ → ℕ
-firstValue ts a = firstAt ts (root ts a)
 
 -- ---- by index; `c` has the size of every set
 

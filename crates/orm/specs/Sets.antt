@@ -8,6 +8,7 @@ use lib.ListN.{length}
 use Rattle.counting.specs.Lists.{upFrom, mapFrom}
 use Rattle.fixpoint.specs.Limits.{Limit, product, sum, times, quotient, Verdict, run, upperAfter, slack}
 use Rattle.orm.specs.Diagram.{ObjectType, Role, Frequency, Predicate, Diagram, isRoot, isMandatory, isGrouped, mustPlay, index, allRoles, allGroups}
+use Rattle.orm.specs.Supertypes.{hasRange}
 
 -- 'Sets count from 1: types, predicates, roles, groups, each in file order'
 unfoldable pub firstPred : Diagram → ℕ
@@ -27,9 +28,10 @@ lower d =
     ++ map (λ (r : Role). 1) (allRoles d)
     ++ map (λ (f : Frequency). 1) (allGroups d)
 
--- 'root, the smaller of MAX and LAST - FIRST + 1; subtype and predicate, MAX; role and group, 4096': of a type
+-- 'root, the smaller of MAX and LAST - FIRST + 1; subtype and predicate, MAX; role and group, 4096', and where a subtype gives FIRST and LAST
+-- its starting ceiling 'is then also at most LAST - FIRST + 1': of a type
 unfoldable pub upperOfType : ObjectType → ℕ
-upperOfType t = elim (isRoot t) [ true ↦ min (t .max) (t .last - t .first + 1) | false ↦ t .max ]
+upperOfType t = elim (hasRange t) [ true ↦ min (t .max) (t .last - t .first + 1) | false ↦ t .max ]
 
 -- Starting upper bounds (document 01: starting ceilings), of all sets
 unfoldable pub upper : Diagram → List ℕ

@@ -9,7 +9,8 @@ use Rattle.counting.specs.Lists.{mapFrom}
 use Rattle.orm.specs.Diagram.{Role, Diagram}
 use Rattle.orm.specs.Form.{roleOf}
 use Rattle.orm.specs.Sets.{firstRole}
-use Rattle.orm.specs.Populate.{firstValue, takenBefore}
+use Rattle.orm.specs.Supertypes.{firstValue}
+use Rattle.orm.specs.Populate.{takenBefore}
 use Rattle.buffer.specs.Written.{Wrote, Writing, Splits}
 use Rattle.buffer.specs.Laws.{wrote-then, wrote-as, writing-all}
 use Rattle.table.specs.Positions.{rolesIn}

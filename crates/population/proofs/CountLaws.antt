@@ -14,7 +14,8 @@ use Rattle.orm.specs.Diagram.{Diagram}
 use Rattle.orm.specs.Form.{typeOf}
 use Rattle.orm.specs.Sets.{Placed, placed}
 use Rattle.orm.specs.Population.{cellsOfType, cellsOfPred, cells}
-use Rattle.orm.specs.Populate.{size, firstValue, typeValues, row, rows, population}
+use Rattle.orm.specs.Supertypes.{firstValue}
+use Rattle.orm.specs.Populate.{size, typeValues, row, rows, population}
 use Rattle.table.specs.Positions.{predCount, typeCount, diagramOf}
 use Rattle.table.specs.Laws.Walks.{each-length}
 use Rattle.table.specs.Cursors.{placedAt, placedLeft, firstCursor, nextCursor, Here}

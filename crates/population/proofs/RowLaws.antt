@@ -10,7 +10,8 @@ use Rattle.counting.specs.Lists.{mapFrom}
 use Rattle.counting.specs.Laws.Maps.{map-congr}
 use Rattle.orm.specs.Diagram.{Role, Diagram, index, allRoles}
 use Rattle.orm.specs.Sets.{Placed, Part, parts, select, rolesOfType, firstRole}
-use Rattle.orm.specs.Populate.{size, firstValue, takenBefore, partTuple, partsOfRow, lookup, indexInRow, memberOf, row}
+use Rattle.orm.specs.Supertypes.{firstValue}
+use Rattle.orm.specs.Populate.{size, takenBefore, partTuple, partsOfRow, lookup, indexInRow, memberOf, row}
 use Rattle.table.specs.Positions.{each}
 use Rattle.tuples.specs.Steps.{steps, tupleIn}
 use Rattle.tuples.specs.StepsLaws.{length-tupleIn, steps-row}

@@ -9,7 +9,8 @@ use Rattle.counting.specs.Lists.{mapFrom}
 use Rattle.orm.specs.Diagram.{Diagram, Role, index}
 use Rattle.orm.specs.Sets.{Placed, Part, parts, groupRoles, firstRole}
 use Rattle.orm.specs.Population.{cellsOfPred}
-use Rattle.orm.specs.Populate.{size, firstValue, takenBefore, row, rows}
+use Rattle.orm.specs.Supertypes.{firstValue}
+use Rattle.orm.specs.Populate.{size, takenBefore, row, rows}
 use Rattle.table.specs.Positions.{each, diagramOf, Walkable}
 use Rattle.selection.specs.Selected.{Types}
 use Rattle.table.specs.Cursors.{placedAt, Here}

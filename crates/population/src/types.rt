@@ -5,7 +5,8 @@ ghost use Prim.Native.Nat.{_+_, _-_, min, _≤_, _<_};
 ghost use lib.ListN.{length, getD};
 ghost use Rattle.counting.specs.Lists.{upFrom};
 ghost use Rattle.orm.specs.Population.{cellsOfType};
-ghost use Rattle.orm.specs.Populate.{superAt, firstAt, root, firstValue, typeValues};
+ghost use Rattle.orm.specs.Supertypes.{firstValue};
+ghost use Rattle.orm.specs.Populate.{typeValues};
 ghost use Rattle.buffer.specs.Written.{Wrote};
 ghost use Rattle.table.specs.Positions.{diagramOf, Walkable};
 ghost use Rattle.tuples.specs.Steps.{Small};
@@ -19,53 +20,13 @@ pub fn size(c: &[u32], s: u32) -> u32
     buffer::item(c, 0, table::index(s))
 }
 
-// SUPER of the type at an index; 0 of a type that is not there.
-fn super_at(t: &[u32], a: u32) -> u32
-    requires { ⌜ Walkable (now t) ⌝ }
-    ensures { λ r. ⌜ r ≡ superAt (diagramOf (now (t .entry)) .types) a ⌝ }
-{
-    if table::type_count(t) <= a {
-        return 0;
-    }
-    table::number(t, 2 + 6 * table::index(a), 4)
-}
-
-// FIRST of the type at an index.
-fn first_at(t: &[u32], a: u32) -> u32
-    requires { ⌜ Walkable (now t) ⌝ }
-    ensures { λ r. ⌜ r ≡ firstAt (diagramOf (now (t .entry)) .types) a ⌝ }
-    ensures { λ r. ⌜ r ≤ 999999 ⌝ }
-{
-    if table::type_count(t) <= a {
-        return 0;
-    }
-    table::number(t, 2 + 6 * table::index(a), 2)
-}
-
-// The root above a type.
-fn root(t: &[u32], a: u32) -> u32
-    requires { ⌜ Walkable (now t) ⌝ }
-    ensures { λ r. ⌜ r ≡ root (diagramOf (now (t .entry)) .types) a ⌝ }
-{
-    let mut left = a;
-    let mut x = a;
-    while 0 < left {
-        let above = super_at(t, x);
-        if above == 0 {
-            return x;
-        }
-        x = above - 1;
-        left -= 1;
-    }
-    x
-}
-
+// The first value of the type at an index: FIRST of its root.
 pub fn first_value(t: &[u32], a: u32) -> u32
     requires { ⌜ Walkable (now t) ⌝ }
     ensures { λ r. ⌜ r ≡ firstValue (diagramOf (now (t .entry)) .types) a ⌝ }
     ensures { λ r. ⌜ r ≤ 999999 ⌝ }
 {
-    first_at(t, root(t, a))
+    supertypes::first_value(t, table::type_count(t), a)
 }
 
 // How many of `count` numbers there is room for from `at` on.

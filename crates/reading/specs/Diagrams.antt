@@ -1,24 +1,22 @@
 -- The reading of a diagram: it reads just the well-formed diagrams, each from its lines.
-use Prim.Native.Nat.{ℕ, suc, _≤_}
+use Prim.Native.Nat.{ℕ, suc}
 use mathlib.Core.Path.{_≡_, refl, sym, ap, _∙_}
 use mathlib.Core.Logic.{_↔_}
-use mathlib.Core.List.{List, [], _∷_, map, append-assoc, append-nil}
+use mathlib.Core.List.{List, [], _∷_, append-assoc, append-nil}
 use native.Mathlib.Numerals.{one-add}
 use native.Mathlib.Omega.{arith}
 use lib.Dec.{lit≤}
 use lib.ListN.{length}
-use Rattle.counting.specs.Lists.{upFrom}
-use Rattle.counting.specs.Terms.{Each2}
-use Rattle.counting.specs.Laws.Range.{of-upFrom, each2-numbered, numbered-length}
-use Rattle.orm.specs.Diagram.{ObjectType, Predicate, Diagram, LineKind, diagramLine, typesLine, typeLine, predsLine, lineOfType, allRoles, allGroups, lines}
-use Rattle.orm.specs.Reader.{read, _>>=_, pure, forEach, atEnd, Cut}
+use Rattle.orm.specs.Diagram.{ObjectType, Predicate, Diagram, LineKind, diagramLine, typesLine, predsLine, allRoles, allGroups, lines}
+use Rattle.orm.specs.Reader.{read, _>>=_, pure, atEnd, Cut}
 use Rattle.orm.specs.Laws.Readers.{bind-read, bind-cases}
-use Rattle.orm.specs.Form.{ranges, typeOf, typeTests, line, diagramLines, wholeDiagram, reading}
+use Rattle.orm.specs.Form.{ranges, diagramLines, wholeDiagram, reading}
 use Rattle.orm.specs.Meaning.{Between}
-use Rattle.orm.specs.WellFormed.{TypeForm, WellFormed}
-use Rattle.reading.specs.Exact.{written, Exact, exact-as, pure-exact, bind-exact, forEach-exact}
+use Rattle.orm.specs.WellFormed.{WellFormed}
+use Rattle.reading.specs.Exact.{written, Exact, exact-as, pure-exact, bind-exact}
 use Rattle.reading.specs.Lines.{Cuts}
-use Rattle.reading.specs.Kinds.{type-exact, count-exact, end-exact}
+use Rattle.reading.specs.Kinds.{count-exact, end-exact}
+use Rattle.reading.specs.Types.{NextTypes, next-types-length, all-types-iff, types-exact}
 use Rattle.reading.specs.Predicates.{NextPreds, PredsForm, next-preds-iff, predicates-exact}
 
 -- What was read: a well-formed diagram, from its whole form and nothing after it, up to the line number behind it
@@ -40,7 +38,7 @@ abbrev PredCountStep : ℕ → List ObjectType → Diagram → Type 0
 PredCountStep t ts d = Between 1 (length (d .preds)) 32 × PredsStep t ts (length (d .preds)) d
 
 abbrev TypesStep : ℕ → Diagram → Type 0
-TypesStep t d = Each2 TypeForm (upFrom 1 t) (d .types) × PredCountStep t (d .types) d
+TypesStep t d = NextTypes [] t (d .types) × PredCountStep t (d .types) d
 
 abbrev TypeCountStep : Diagram → Type 0
 TypeCountStep d = Between 1 (length (d .types)) 32 × TypesStep (length (d .types)) d
@@ -62,13 +60,13 @@ diagram-forms d = (
         predCount = predCount;
         roleCount = omega (arith, ps .roleTotal);
         groupCount = omega (arith, ps .groupTotal);
-        types = each2-numbered TypeForm 1 (d .types) .0 types;
+        types = all-types-iff (d .types) .0 types;
         preds = ps .each;
       },
   λ w.
       let ps : PredsForm (length (d .types)) 0 0 (length (d .preds)) (d .preds) =
       record { counted = refl; each = w .preds; roleTotal = omega (arith, w .roleCount); groupTotal = omega (arith, w .groupCount) } in
-      let types = each2-numbered TypeForm 1 (d .types) .1 (w .types) in
+      let types = all-types-iff (d .types) .1 (w .types) in
       let preds = all-preds-iff (length (d .types)) (length (d .preds)) (d .preds) .1 ps in
       (omega arith, (w .typeCount, (types, (w .predCount, (preds, (refl, refl)))))),
 )
@@ -78,9 +76,10 @@ module _ (form : LineKind → List ℕ → List ℕ) (next : LineKind → List �
   unfolding diagramLines allRoles lines
   diagram-exact = exact-as form diagram-forms (λ d w. rw append-assoc)
       (bind-exact form _ _ (λ d. 1) (λ one d w e. omega arith) (count-exact form next cuts diagramLine 1 1 (unfold ranges in refl) (lit≤ tt))
-      (λ one w. bind-exact form _ _ (λ d. length (d .types)) (λ t d w e. numbered-length TypeForm 1 t (d .types) (e .0))
+      (λ one w. bind-exact form _ _ (λ d. length (d .types)) (λ t d w e. next-types-length [] t (d .types) (e .0))
       (count-exact form next cuts typesLine 1 32 (unfold ranges in refl) (lit≤ tt))
-      (λ t some-types. bind-exact form _ _ (λ d. d .types) (λ ts d w e. ap (λ (x : Diagram). x .types) (e .1 .1 .1)) (type-lines t (some-types .1))
+      (λ t some-types. bind-exact form _ _ (λ d. d .types) (λ ts d w e. ap (λ (x : Diagram). x .types) (e .1 .1 .1))
+      (types-exact form next cuts [] t (omega (arith, some-types .1)))
       (λ ts w. bind-exact form _ _ (λ d. length (d .preds)) (λ p d w e. all-preds-iff t p (d .preds) .0 (e .0) .counted)
       (count-exact form next cuts predsLine 1 32 (unfold ranges in refl) (lit≤ tt))
       (λ p w. bind-exact form _ _ (λ d. d .preds) (λ ps d w e. ap (λ (x : Diagram). x .preds) (e .1))
@@ -88,11 +87,6 @@ module _ (form : LineKind → List ℕ → List ℕ) (next : LineKind → List �
       (λ ps w. bind-exact form _ _ (λ d. length (allRoles d)) (known-end ts ps)
       (end-exact form next cuts _ (omega (arith, all-preds-iff t p ps .0 w .roleTotal)))
       (λ n w. pure-exact form (record { types = ts; preds = ps }))))))))
-    where
-      type-lines : (t : ℕ) → t ≤ 32
-          → Exact form (forEach (λ (i : ℕ). line next typeLine typeOf (typeTests i)) (upFrom 1 t)) (Each2 TypeForm (upFrom 1 t)) (map lineOfType)
-      type-lines t most =
-          forEach-exact form _ TypeForm lineOfType (upFrom 1 t) (λ i m. type-exact form next cuts i (omega (arith, of-upFrom 1 t m)))
 
   abbrev whole : Diagram → List ℕ
   whole d = written form (lines d)

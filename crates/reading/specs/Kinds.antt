@@ -1,27 +1,31 @@
 -- What a line of each kind must hold, as facts: type, predicate, role, freq lines and lines with a count.
 use Prim.Native.Nat.{ℕ, _+_, _≤_}
 use mathlib.Core.Path.{_≡_, refl, ap}
-use mathlib.Core.Logic.{_↔_}
-use mathlib.Core.Bool.{Bool, true, false, _&&_, _||_, false≢true, and-eq-true-iff}
-use mathlib.Core.List.{List, [], _∷_, List·Memᴰ·head as here, List·Memᴰ·tail as there, List·Memᴰ·not-nil}
+use mathlib.Core.Logic.{_↔_, Iff·trans, Iff·and}
+use mathlib.Core.Bool.{Bool, true, false, _||_, false≢true, and-eq-true-iff}
+use mathlib.Core.Option.{some}
+use mathlib.Core.List.{List, [], _∷_, _++_, List·Memᴰ·head as here, List·Memᴰ·tail as there, List·Memᴰ·not-nil}
 use native.Mathlib.Nat.{le-trans}
-use native.Mathlib.Decide.{ℕ-discrete}
 use native.Mathlib.Omega.{arith}
 use borrow.Author.Tests.{leb-true, le-leb, ltb-true, lt-ltb, eqb-true, eqb-false, eq-eqb}
-use lib.Dec.{leb, eqb}
+use lib.Dec.{eqb}
 use lib.ListN.{length}
 use Rattle.counting.specs.Distinct.{all}
 use Rattle.counting.specs.Laws.Distinct.{all-decides}
 use Rattle.counting.specs.Terms.{_∈_}
 use Rattle.counting.specs.Laws.Members.{each-nil, each-cons}
-use Rattle.orm.specs.Diagram.{ObjectType, Role, Frequency, LineKind, typeLine, predLine, roleLine, freqLine, endLine, lineOfType, lineOfRole, lineOfGroup, lineOfCount, isRoot}
-use Rattle.orm.specs.Reader.{read, Cut}
-use Rattle.orm.specs.Form.{_to_, ranges, fields, countOf, typeOf, roleOf, groupOf, PredHead, headOf, valuesInOrder, typeTests, predTests, roleTests, named, groupTests, endTests, mostRoles, mostGroups, line, count}
-use Rattle.orm.specs.Meaning.{Between}
+use Rattle.counting.specs.Laws.Instances.{eqb-decides}
+use Rattle.orm.specs.Diagram.{ObjectType, Role, Frequency, LineKind, typeLine, predLine, roleLine, freqLine, endLine, lineOfType, lineOfRole, lineOfGroup, lineOfCount, isRoot, index}
+use Rattle.orm.specs.Supertypes.{firstValue, hasRange, lastValue}
+use Rattle.orm.specs.Reader.{rejected, read, Cut}
+use Rattle.orm.specs.Form.{_to_, ranges, fields, inRanges, firstOf, countOf, typeOf, roleOf, groupOf, PredHead, headOf, withinSuper, valuesInOrder, typeTests, predTests, roleTests, named, groupTests, endTests, mostRoles, mostGroups, line, count}
+use Rattle.orm.specs.Meaning.{Between, HasRange}
+use Rattle.orm.specs.Laws.Decided.{leb-decides, if-decides, hasRange-decides}
 use Rattle.orm.specs.WellFormed.{TypeForm, RoleForm, GroupForm}
-use Rattle.reading.specs.Exact.{Exact, exact-as}
+use Rattle.reading.specs.Exact.{written, Exact, exact-as}
+use Rattle.reading.specs.TextLength.{first-small}
 use Rattle.reading.specs.Spelling.{lineOfHead, type-spelling, role-spelling, group-spelling, head-spelling, count-spelling}
-use Rattle.reading.specs.Lines.{InRanges, Small, isSmall, in-ranges-small, Cuts, Spelling, LineForm, line-only, line-exact}
+use Rattle.reading.specs.Lines.{InRanges, Small, isSmall, in-ranges-small, Cuts, Spelling, LineForm, tested-decides, line-only, line-refused, line-exact}
 
 -- Every kind of line but `end` has no range above 6 digits
 small-ranges : (k : LineKind) (vs : List ℕ) → all isSmall (ranges k) ≡ true → length vs ≡ fields k
@@ -30,22 +34,25 @@ unfolding fields
 small-ranges k vs e l h =
     in-ranges-small (ranges k) vs l (all-decides isSmall (λ r. (λ q. q, λ q. q)) (ranges k) .0 e) h
 
-values-decides : (t : ObjectType)
-    → valuesInOrder t ≡ true ↔ ((t .super ≡ 0 → t .first ≤ t .last) × (¬ (t .super ≡ 0) → (t .first ≡ 0) × (t .last ≡ 0)))
-unfolding valuesInOrder isRoot
-values-decides t = go (eqb (t .super) 0) refl
-  where
-    go : (b : Bool) → eqb (t .super) 0 ≡ b
-        → elim b [ true ↦ leb (t .first) (t .last) | false ↦ eqb (t .first) 0 && eqb (t .last) 0 ] ≡ true ↔
-        ((t .super ≡ 0 → t .first ≤ t .last) × (¬ (t .super ≡ 0) → (t .first ≡ 0) × (t .last ≡ 0)))
-    go true e =
-        let z : t .super ≡ 0 = eqb-true (t .super) 0 e in
-        (λ h. (λ _. leb-true (t .first) (t .last) h, λ n. absurd (n z)), λ h. le-leb (t .first) (t .last) (h .0 z))
-    go false e =
-        let z : ¬ (t .super ≡ 0) = eqb-false (t .super) 0 e in (
-          λ h. (λ q. absurd (z q), λ _. let b = and-eq-true-iff _ _ .0 h in (eqb-true (t .first) 0 (b .0), eqb-true (t .last) 0 (b .1))),
-          λ h. let b = h .1 z in and-eq-true-iff _ _ .1 (eq-eqb (t .first) 0 (b .0), eq-eqb (t .last) 0 (b .1)),
-        )
+-- one test holds, or another one
+or-unless : (a b : Bool) {A B : Type 0} → a ≡ true ↔ A → b ≡ true ↔ B → (a || b) ≡ true ↔ (¬ A → B)
+or-unless true b p q = (λ h n. absurd (n (p .0 refl)), λ f. refl)
+or-unless false b p q = (λ h n. q .0 h, λ f. q .1 (f (λ x. false≢true (p .1 x))))
+
+-- What 4 asks of FIRST and LAST
+abbrev pub Values : List ObjectType → ObjectType → Type 0
+Values before t =
+    HasRange t → (t .first ≤ t .last)
+    × (¬ (t .super ≡ 0) → (t .first ≡ firstValue before (index (t .super))) × (t .last ≤ lastValue before (index (t .super))))
+
+pub values-decides : (before : List ObjectType) (t : ObjectType) → valuesInOrder before t ≡ true ↔ Values before t
+unfolding valuesInOrder withinSuper isRoot
+values-decides before t =
+    if-decides (hasRange t) _ (hasRange-decides t)
+    (Iff·trans (and-eq-true-iff _ _)
+    (Iff·and (leb-decides (t .first) (t .last))
+    (or-unless _ _ (eqb-decides .iff (t .super) 0)
+    (Iff·trans (and-eq-true-iff _ _) (Iff·and (eqb-decides .iff (t .first) _) (leb-decides (t .last) _))))))
 
 named-decides : (g : ℕ) (rs : List Role) → named g rs ≡ true ↔ ((r : Role) × (r ∈ rs) × (r .group ≡ g))
 unfolding named
@@ -61,14 +68,6 @@ named-decides g (r ∷ rs) = go (eqb (r .group) g) refl (named-decides g rs)
         back (x, here q, n) = absurd (eqb-false (r .group) g e (rw q at n))
         back (x, there m, n) = ih .1 (x, m, n)
 
--- FIRST of a root is at most its LAST, that of a subtype is 0
-first-small : {own : ℕ} (t : ObjectType) → TypeForm own t → t .first ≤ 999999
-first-small t f = go (ℕ-discrete (t .super) 0)
-  where
-    go : Dec (t .super ≡ 0) → t .first ≤ 999999
-    go (yes e) = omega (arith, f .values e)
-    go (no n) = omega (arith, f .no-values n .0)
-
 -- A `pred` line, after so many roles and groups
 pub record HeadForm (roles groups : ℕ) (h : PredHead) : Type 0 where
   pub some : 1 ≤ h .min
@@ -80,30 +79,41 @@ pub record HeadForm (roles groups : ℕ) (h : PredHead) : Type 0 where
   pub groupTotal : groups + h .groups ≤ 48
 
 module _ (form : LineKind → List ℕ → List ℕ) (next : LineKind → List ℕ → Cut) (cuts : Cuts form next) where
-  -- The type with this number
-  pub type-exact : (own : ℕ) → own ≤ 33
-      → Exact form (line next typeLine typeOf (typeTests own)) (TypeForm own) (λ (t : ObjectType). lineOfType t ∷ [])
+  -- A type whose numbers are in their ranges and that fails a test
+  pub type-refused : (own : ℕ) (before : List ObjectType) (t : ObjectType) → inRanges (ranges typeLine) (lineOfType t .values) ≡ true → {c : ℕ}
+      → firstOf (typeTests own before t) ≡ some c → (n : ℕ) (rest : List ℕ)
+      → line next typeLine typeOf (typeTests own before) n (written form (lineOfType t ∷ []) ++ rest) ≡ rejected c n
+  unfolding firstOf
+  type-refused own before t ranged =
+      line-refused form next cuts typeLine typeOf (typeTests own before) lineOfType type-spelling t
+      (small-ranges typeLine _ (unfold all isSmall ranges in refl) (type-spelling .counted t)
+      (tested-decides typeLine (lineOfType t .values) [] .0 (rw ranged) .0))
+      ranged
+
+  -- The type with this number, after these
+  pub type-exact : (own : ℕ) (before : List ObjectType) → own ≤ 33
+      → Exact form (line next typeLine typeOf (typeTests own before)) (TypeForm before own) (λ (t : ObjectType). lineOfType t ∷ [])
   unfolding typeTests ranges lineOfType
-  type-exact own bound =
+  type-exact own before bound =
       exact-as form forms (λ t w. refl)
-      (line-exact form next cuts typeLine typeOf (typeTests own) lineOfType type-spelling
+      (line-exact form next cuts typeLine typeOf (typeTests own before) lineOfType type-spelling
       (λ t w. small-ranges typeLine _ (unfold all isSmall in refl) (type-spelling .counted t) (w .0)))
     where
-      forms : (t : ObjectType) → LineForm typeLine (typeTests own) lineOfType t ↔ TypeForm own t
+      forms : (t : ObjectType) → LineForm typeLine (typeTests own before) lineOfType t ↔ TypeForm before own t
       forms t = (
-        λ ((min, (max, (first, (last, (super, (indep, _)))))), (above, (sizes, (values, _)))). let v = values-decides t .0 values in record {
+        λ ((min, (max, (first, (last, (super, (indep, _)))))), (above, (sizes, (values, _)))). let v = values-decides before t .0 values in record {
           some = min .0;
           sizes = leb-true (t .min) (t .max) sizes;
           most = max .1;
           above = ltb-true (t .super) own above;
-          values = v .0;
-          no-values = v .1;
+          values = λ r. v r .0;
+          within = λ r. v r .1;
           largest = last .1;
           indep = indep .1;
         },
-        λ f. let first : t .first ≤ 999999 = first-small t f in (
+        λ f. let first : t .first ≤ 999999 = first-small before own t f in (
           (omega arith, (omega arith, (omega arith, (omega arith, (omega arith, (omega arith, tt)))))),
-          (lt-ltb (t .super) own (f .above), (le-leb (t .min) (t .max) (f .sizes), (values-decides t .1 (f .values, f .no-values), tt))),
+          (lt-ltb (t .super) own (f .above), (le-leb (t .min) (t .max) (f .sizes), (values-decides before t .1 (λ r. (f .values r, f .within r)), tt))),
         ),
       )
 

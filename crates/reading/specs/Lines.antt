@@ -52,6 +52,11 @@ passed-decides [] = (λ e. tt, λ h. refl)
 passed-decides (c unless true ∷ ts) = (λ e. (refl, passed-decides ts .0 e), λ h. passed-decides ts .1 (h .1))
 passed-decides (c unless false ∷ ts) = (λ e. let z : _≡_ {A = ℕ} 0 1 = cc in absurd (omega arith), λ h. absurd (false≢true (h .0)))
 
+-- A test that passes leaves it to the others
+passes : (c : ℕ) {b : Bool} → b ≡ true → (ts : List Test) → firstOf (c unless b ∷ ts) ≡ firstOf ts
+unfolding firstOf
+passes c e ts = rw (e, firstOf)
+
 -- Numbers of at most 6 digits
 abbrev pub Small : List ℕ → Type 0
 Small vs = Each (_≤ 999999) vs
@@ -132,6 +137,21 @@ module _ (form : LineKind → List ℕ → List ℕ) (next : LineKind → List �
       → line next k make tests n s ≡ read (make v) (suc n) rest
   unfolding line
   line-read n s v rest e q = rw (e, q, line) refl
+
+  -- a line that is cut off and fails one
+  line-fails : (n : ℕ) (s v rest : List ℕ) {c : ℕ} → next k s ≡ cut v rest → firstOf (2 unless inRanges (ranges k) v ∷ tests (make v)) ≡ some c
+      → line next k make tests n s ≡ rejected c n
+  unfolding line
+  line-fails n s v rest e q = rw (e, q, line) refl
+
+  -- the line of `a`, whose numbers are in their ranges
+  pub line-refused : (a : A) → Small (lineOf a .values) → inRanges (ranges k) (lineOf a .values) ≡ true → {c : ℕ} → firstOf (tests a) ≡ some c
+      → (n : ℕ) (rest : List ℕ) → line next k make tests n (written form (lineOf a ∷ []) ++ rest) ≡ rejected c n
+  line-refused a small ranged {c} fails n rest =
+      let v = lineOf a .values in
+      let test : firstOf (2 unless inRanges (ranges k) v ∷ tests (make v)) ≡ some c =
+      passes 2 ranged _ ∙ ap (λ (b : A). firstOf (tests b)) (spelling .made a) ∙ fails in
+      rw (written-one, spelling .kind) (line-fails n _ v rest (cuts .every k v rest (spelling .counted a) small) test)
 
   line-every : ((a : A) → Form a → Small (lineOf a .values)) → (a : A) → Form a → (n : ℕ) (rest : List ℕ)
       → line next k make tests n (written form (lineOf a ∷ []) ++ rest) ≡ read a (n + 1) rest

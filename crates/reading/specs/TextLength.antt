@@ -2,6 +2,7 @@
 use Prim.Native.Nat.{ℕ, zero, suc, _+_, _*_, _≤_, _<_}
 use native.Mathlib.Omega.{arith}
 use mathlib.Core.Path.{_≡_, refl, ap}
+use mathlib.Core.Logic.{inr}
 use mathlib.Core.List.{List, [], _∷_, _++_, map, flatMap, List·Memᴰ·head as here, List·Memᴰ·tail as there}
 use lib.ListN.{length, length-append}
 use Rattle.counting.specs.Terms.{Each, EachFrom}
@@ -29,17 +30,18 @@ wide-cons k {b} {v} {vs} h w = record {
 
 -- ---- the numbers of each line
 
-pub first-small : (n : ℕ) (t : ObjectType) → TypeForm n t → t .first ≤ 999999
-first-small n t f = go (t .super) refl
+-- FIRST is 0, or at most LAST
+pub first-small : (ts : List ObjectType) (n : ℕ) (t : ObjectType) → TypeForm ts n t → t .first ≤ 999999
+first-small ts n t f = go (t .first) refl
   where
-    go : (s : ℕ) → t .super ≡ s → t .first ≤ 999999
-    go zero e = omega (arith, f .values e, f .largest)
-    go (suc s) e = omega (arith, f .no-values (λ z. omega arith) .0)
+    go : (s : ℕ) → t .first ≡ s → t .first ≤ 999999
+    go zero e = omega arith
+    go (suc s) e = omega (arith, f .values (inr (λ z. omega arith)), f .largest)
 
-type-wide : (n : ℕ) (t : ObjectType) → n ≤ 32 → TypeForm n t → Wide 29 (lineOfType t .values)
+type-wide : (ts : List ObjectType) (n : ℕ) (t : ObjectType) → n ≤ 32 → TypeForm ts n t → Wide 29 (lineOfType t .values)
 unfolding lineOfType bound
-type-wide n t h f =
-    let first : t .first ≤ 999999 = first-small n t f in
+type-wide ts n t h f =
+    let first : t .first ≤ 999999 = first-small ts n t f in
     wide-cons 3 (omega (arith, f .sizes, f .most))
     (wide-cons 3 (omega (arith, f .most))
     (wide-cons 5 (omega arith)
@@ -90,13 +92,13 @@ size-cons l ls {b} w = omega (
   w .is,
 )
 
-types-size : (n : ℕ) (ts : List ObjectType) → n + length ts ≤ 33 → EachFrom TypeForm n ts → size (map lineOfType ts) ≤ 34 * length ts
+types-size : (us : List ObjectType) (n : ℕ) (ts : List ObjectType) → n + length ts ≤ 33 → EachFrom (TypeForm us) n ts → size (map lineOfType ts) ≤ 34 * length ts
 unfolding lineOfType bytes key
-types-size n [] h f = omega (arith, size-none)
-types-size n (t ∷ ts) h f = omega (
+types-size us n [] h f = omega (arith, size-none)
+types-size us n (t ∷ ts) h f = omega (
   arith,
-  size-cons (lineOfType t) (map lineOfType ts) (type-wide n t (omega arith) (f .0)),
-  types-size (suc n) ts (omega arith) (f .1),
+  size-cons (lineOfType t) (map lineOfType ts) (type-wide us n t (omega arith) (f .0)),
+  types-size us (suc n) ts (omega arith) (f .1),
 )
 
 roles-size : (types groups : ℕ) (rs : List Role) → types ≤ 32 → groups ≤ 6 → Each (RoleForm types groups) rs
@@ -167,7 +169,7 @@ text-length d w =
       size-cons (lineOfCount typesLine (length (d .types))) after-types (count-wide (length (d .types)) (omega (arith, w .typeCount .1))),
       size-append (ts ++ lineOfCount predsLine (length (d .preds)) ∷ ps) last,
       size-append ts (lineOfCount predsLine (length (d .preds)) ∷ ps),
-      types-size 1 (d .types) (omega (arith, w .typeCount .1)) (w .types),
+      types-size (d .types) 1 (d .types) (omega (arith, w .typeCount .1)) (w .types),
       size-cons (lineOfCount predsLine (length (d .preds))) ps (count-wide (length (d .preds)) (omega (arith, w .predCount .1))),
       preds-size (length (d .types)) (d .preds) (w .typeCount .1) (w .preds),
       size-cons (lineOfCount endLine (length (allRoles d))) [] (count-wide (length (allRoles d)) (omega (arith, w .roleCount))),

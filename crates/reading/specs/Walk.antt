@@ -1,9 +1,10 @@
 -- The reading of a diagram as one walk over its lines, with the numbers read so far at hand.
-use Prim.Native.Nat.{ℕ, zero, suc, _+_}
+use Prim.Native.Nat.{ℕ, zero, suc, _+_, _-_}
 use mathlib.Core.Option.{none, some}
 use mathlib.Core.List.{List, [], _∷_, _++_}
-use lib.ListN.{length, getD}
-use Rattle.orm.specs.Diagram.{Role, Diagram, Totals, totals, table, LineKind, diagramLine, typesLine, typeLine, predsLine, predLine, roleLine, freqLine, endLine}
+use lib.ListN.{length, getD, drop}
+use Rattle.counting.specs.Lists.{each}
+use Rattle.orm.specs.Diagram.{ObjectType, Role, Diagram, Totals, totals, table, LineKind, diagramLine, typesLine, typeLine, predsLine, predLine, roleLine, freqLine, endLine}
 use Rattle.orm.specs.Reader.{rejected, read, Reader, Cut, broken, cut}
 use Rattle.orm.specs.Form.{Test, _unless_, firstOf, ranges, inRanges, countOf, typeOf, roleOf, groupOf, headOf, typeTests, predTests, roleTests, groupTests, endTests}
 
@@ -14,6 +15,14 @@ pub record Summary : Type 0 where
 
 unfoldable pub summary : Diagram → Summary
 summary d = record { numbers = table d; totals = totals d }
+
+-- The `n` types whose numbers stand here
+abbrev pub typesIn : ℕ → List ℕ → List ObjectType
+typesIn n s = each typeOf 6 n s
+
+-- The tests of the type with this number against those before it, which stand behind the first two numbers of a table
+unfoldable pub typeTestsAt : ℕ → List ℕ → List ℕ → List Test
+typeTestsAt own acc v = typeTests own (typesIn (own - 1) (drop 2 acc)) (typeOf v)
 
 -- The roles whose numbers stand from the index `first` on
 unfoldable pub rolesAt : List ℕ → ℕ → ℕ → List Role
@@ -80,7 +89,7 @@ module _ (next : LineKind → List ℕ → Cut) where
   fromPredsLine types acc = lineThen predsLine (λ v. []) (λ v acc′. fromPreds (noRoles types (getD v 0 0)) (getD v 0 0) acc′) acc
 
   unfoldable pub fromTypes : ℕ → ℕ → ℕ → Walk
-  fromTypes types own left = linesThen typeLine (λ i acc v. typeTests i (typeOf v)) own left (fromPredsLine types)
+  fromTypes types own left = linesThen typeLine typeTestsAt own left (fromPredsLine types)
 
   unfoldable pub fromTypesLine : Walk
   fromTypesLine acc = lineThen typesLine (λ v. []) (λ v acc′. fromTypes (getD v 0 0) 1 (getD v 0 0) acc′) acc

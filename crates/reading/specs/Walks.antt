@@ -1,3 +1,4 @@
 pub mod Lines
+pub mod Types
 pub mod Predicates
 pub mod Diagrams

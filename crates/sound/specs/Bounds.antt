@@ -5,8 +5,6 @@ use mathlib.Core.Bool.{Bool, true, false}
 use mathlib.Core.List.{List, [], _∷_, _++_, map}
 use native.Mathlib.Nat.{suc-inj, le-min}
 use native.Mathlib.Omega.{arith}
-use borrow.Author.Tests.{eqb-true}
-use lib.Dec.{eqb}
 use lib.ListN.{length}
 use Rattle.counting.specs.Lists.{upFrom, column}
 use Rattle.counting.specs.Terms.{_∈_, NoRepeats}
@@ -16,12 +14,14 @@ use Rattle.counting.specs.Laws.Instances.{eqb-decides, same-decides}
 use Rattle.counting.specs.Laws.Index.{At, first, later, at-in, of-mapFrom, of-flatten-zipWith}
 use Rattle.fixpoint.specs.Notions.{_≼_}
 use Rattle.fixpoint.specs.Laws.Order.{≼-refl, ≼-cons, ≼-tail}
-use Rattle.orm.specs.Diagram.{ObjectType, Predicate, Diagram, isRoot, allRoles, allGroups}
+use Rattle.orm.specs.Diagram.{ObjectType, Predicate, Diagram, allRoles, allGroups}
+use Rattle.orm.specs.Supertypes.{hasRange}
 use Rattle.orm.specs.Sets.{lower, upper, upperOfType}
 use Rattle.orm.specs.Population.{Population}
 use Rattle.orm.specs.Constraints.{Played, Grouped, played, grouped, allPlayed, allGrouped, sizes}
 use Rattle.orm.specs.Meaning.{Between, M1, M2, M3, M6, Meets, Shaped}
 use Rattle.orm.specs.WellFormed.{WellFormed}
+use Rattle.orm.specs.Laws.Decided.{hasRange-decides}
 use Rattle.sound.specs.Counts.{distinct-between}
 use Rattle.sound.specs.Each.{each-type, each-pred}
 use Rattle.sound.specs.Positions.{playedSize, groupedSize, preds-length, roles-length, groups-length}
@@ -52,11 +52,11 @@ differ-between low high vs n h =
 
 module _ (d : Diagram) (o : Population) where
   type-upper : (n : ℕ) (t : ObjectType) (vs : List ℕ) → M1 n t vs → M2 n t vs → M3 n t vs → length vs ≤ upperOfType t
-  unfolding upperOfType isRoot
-  type-upper n t vs m1 m2 m3 = go (eqb (t .super) 0) refl
+  unfolding upperOfType
+  type-upper n t vs m1 m2 m3 = go (hasRange t) refl
     where
-      go : (b : Bool) → eqb (t .super) 0 ≡ b → length vs ≤ elim b [ true ↦ min (t .max) (t .last - t .first + 1) | false ↦ t .max ]
-      go true e = le-min (m2 .1) (differ-between (t .first) (t .last) vs m1 (m3 (eqb-true (t .super) 0 e)))
+      go : (b : Bool) → hasRange t ≡ b → length vs ≤ elim b [ true ↦ min (t .max) (t .last - t .first + 1) | false ↦ t .max ]
+      go true e = le-min (m2 .1) (differ-between (t .first) (t .last) vs m1 (m3 (hasRange-decides t .0 e)))
       go false e = m2 .1
 
 module _ (d : Diagram) (o : Population) (form : WellFormed d) (shaped : Shaped d o) (meets : Meets d o) where

@@ -1,6 +1,7 @@
 -- No cell of a population that meets the constraints is above 999999.
 use Prim.Native.Nat.{ℕ, zero, suc, _+_, _≤_, _<_}
 use mathlib.Core.Path.{_≡_, sym}
+use mathlib.Core.Logic.{inl}
 use mathlib.Core.List.{List, [], Memᴰ·map, Memᴰ·cast}
 use native.Mathlib.Decide.{ℕ-discrete}
 use native.Mathlib.Nat.{lt-suc-self}
@@ -24,13 +25,13 @@ module _ (d : Diagram) (o : Population) (form : WellFormed d) (shaped : Shaped d
   values-small zero a t vs h p q = absurd (omega arith)
   values-small (suc k) a t vs h p q = go (ℕ-discrete (t .super) 0) (values-small k (index (t .super)))
     where
-      type-form : TypeForm (1 + a) t
-      type-form = each-from-at TypeForm 1 (form .types) p
+      type-form : TypeForm (d .types) (1 + a) t
+      type-form = each-from-at (TypeForm (d .types)) 1 (form .types) p
 
       go : Dec (t .super ≡ 0)
           → ((u : ObjectType) (us : List ℕ) → index (t .super) < k → At u (d .types) (index (t .super)) → At us (o .types) (index (t .super))
           → Each (_≤ 999999) us) → Each (_≤ 999999) vs
-      go (yes e) rest v m = omega (arith, each-type M3 1 (meets .k3) p q e v m, type-form .largest)
+      go (yes e) rest v m = omega (arith, each-type M3 1 (meets .k3) p q (inl e) v m, type-form .largest)
       go (no n) rest v m =
           let above = type-form .above in
           let (u, p′) = below-at (d .types) (index (t .super)) (omega (arith, at-below p)) in
@@ -63,7 +64,7 @@ module _ (d : Diagram) (o : Population) (form : WellFormed d) (shaped : Shaped d
   type-cells-small vs m =
       let (a, q) = in-at m in
       let (t, p) = type-of q in
-      let most = each-from-at TypeForm 1 (form .types) p .most in
+      let most = each-from-at (TypeForm (d .types)) 1 (form .types) p .most in
       each-cons _ (omega (arith, each-type M2 1 (meets .k2) p q)) (values-small (suc a) a t vs (lt-suc-self a) p q)
 
   pred-cells-small : (rows : List (List ℕ)) → rows ∈ o .preds → Each (_≤ 999999) (cellsOfPred rows)

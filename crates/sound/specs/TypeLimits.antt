@@ -65,8 +65,8 @@ module _ (d : Diagram) (o : Population) (form : WellFormed d) (shaped : Shaped d
   constraint : (P : ℕ → ObjectType → List ℕ → Type 0) → EachType P 1 (d .types) (o .types) → P (1 + a) t vs
   constraint P h = each-type P 1 h t-at (vs-at .1)
 
-  type-form : TypeForm (1 + a) t
-  type-form = each-from-at TypeForm 1 (form .types) t-at
+  type-form : TypeForm (d .types) (1 + a) t
+  type-form = each-from-at (TypeForm (d .types)) 1 (form .types) t-at
 
   size-of-own : getD c a 0 ≡ length vs
   size-of-own = rw zero-add at (size-at length (types-segment d o shaped) (vs-at .1))

@@ -8,7 +8,7 @@ use lib.ListN.{length, getD, drop, List·getD-append}
 use Rattle.counting.specs.Laws.Index.{At, at-below, each-from-at}
 use Rattle.fixpoint.specs.Limits.{unsatisfiable}
 use Rattle.orm.specs.Diagram.{ObjectType, Diagram, index}
-use Rattle.orm.specs.Sets.{upper, verdict}
+use Rattle.orm.specs.Sets.{upperOfType, upper, verdict}
 use Rattle.orm.specs.Populate.{size}
 use Rattle.orm.specs.Constraints.{Answer, valid, breaks}
 use Rattle.orm.specs.Outcome.{Outcome, refused, accepted}
@@ -65,19 +65,19 @@ module _ {t : List ℕ} {n rounds : ℕ} {before after : List ℕ} (w : Written 
       let inside : i < length c = omega (arith, long, length-upper d, at-below h) in
       ap (λ (l : List ℕ). getD l i 0) (w .front) ∙ List·getD-append c (drop n before) 0 i inside
 
-  written-settles : FreeSubtype d (suc a) type → size after a ≡ min (type .max) (size after (index (type .super)))
+  written-settles : FreeSubtype d (suc a) type → size after a ≡ min (upperOfType type) (size after (index (type .super)))
   written-settles f =
-      let above : index (type .super) ≤ a = omega (arith, each-from-at TypeForm 1 (w .of .wellFormed .types) h .above) in
+      let above : index (type .super) ≤ a = omega (arith, each-from-at (TypeForm (d .types)) 1 (w .of .wellFormed .types) h .above) in
       rw (front (le-refl a), front above) (said (w .of) .settles h f (w .populated))
 
 settles : {t four before after : List ℕ} (x : TableOf t) → Told t settledSizes four before after
     → {rounds n : ℕ} → four ≡ 0 ∷ 0 ∷ rounds ∷ n ∷ [] → {a : ℕ} {type : ObjectType} → At type (x .diagram .types) a → FreeSubtype (x .diagram) (suc a) type
-    → size after a ≡ min (type .max) (size after (index (type .super)))
+    → size after a ≡ min (upperOfType type) (size after (index (type .super)))
 unfolding numbers
 settles {t} {four} {before} {after} x told e {a} {type} h f = go (told .answer) (told .numbered) (told .means)
   where
     go : (r : Settlement) → four ≡ numbers (settlementOf r) → Means t settledSizes r before after
-        → size after a ≡ min (type .max) (size after (index (type .super)))
+        → size after a ≡ min (upperOfType type) (size after (index (type .super)))
     go (Refused fault line) q m = let z : numberOf fault ≡ 0 = cc in absurd (omega (arith, faulty fault))
     go (Unsatisfiable set round) q m = let z : _≡_ {A = ℕ} 7 0 = cc in absurd (omega arith)
     go (TooShort needed) q m = let z : _≡_ {A = ℕ} 8 0 = cc in absurd (omega arith)

@@ -8,8 +8,8 @@ use mathlib.Core.List.{List, []}
 use lib.ListN.{length, getD}
 use Rattle.orm.specs.Diagram.{LineKind, typesLine, typeLine, predsLine, predLine, roleLine, freqLine}
 use Rattle.orm.specs.Reader.{Cut}
-use Rattle.orm.specs.Form.{Test, typeOf, roleOf, groupOf, headOf, typeTests, predTests, roleTests, groupTests}
-use Rattle.reading.specs.Walk.{rolesAt, Walk, lineThen, linesThen, fromEnd, groupsThen, rolesThen, fromPreds, fromPredsLine, fromTypes, fromTypesLine, fromStart}
+use Rattle.orm.specs.Form.{Test, roleOf, groupOf, headOf, predTests, roleTests, groupTests}
+use Rattle.reading.specs.Walk.{typeTestsAt, rolesAt, Walk, lineThen, linesThen, fromEnd, groupsThen, rolesThen, fromPreds, fromPredsLine, fromTypes, fromTypesLine, fromStart}
 use Rattle.grammar.specs.declared.Counts.{Counts}
 use Rattle.grammar.specs.declared.Block.{Block}
 use Rattle.grammar.specs.declared.Awaited.{Awaited}
@@ -56,7 +56,7 @@ module _ (next : LineKind → List ℕ → Cut) where
   goes AtTypes acc g =
       ap (λ (w : List ℕ → Walk). lineThen next typesLine (λ v. []) w acc) (λ i v. sym (from-types (getD v 0 0) 1 (getD v 0 0)) i)
   goes (AtType types own left) acc g =
-      ap (λ (w : Walk). lineThen next typeLine (λ v. typeTests own (typeOf v)) (λ v. w) acc)
+      ap (λ (w : Walk). lineThen next typeLine (typeTestsAt own acc) (λ v. w) acc)
       (sym (from-types types (suc own) left) ∙ rw add-one refl)
   goes (AtPreds types) acc g =
       ap (λ (w : List ℕ → Walk). lineThen next predsLine (λ v. []) w acc)

@@ -30,7 +30,7 @@ use Rattle.orm.specs.Meaning.{Plays, MustPlay}
 use Rattle.orm.specs.WellFormed.{TypeForm, WellFormed}
 use Rattle.orm.specs.Laws.Decided.{plays-decides, mustPlay-decides}
 use Rattle.orm.specs.Laws.Limits.{only-own}
-use Rattle.orm.specs.Laws.Named.{FailsK10, named-K10}
+use Rattle.orm.specs.Laws.Named.{Fails, named-K10}
 use Rattle.orm.specs.Laws.Rounds.{own-bounds, verdict-laws}
 use Rattle.orm.specs.Laws.Select.{of-select}
 use Rattle.orm.specs.Cases.All.{everything}
@@ -86,7 +86,7 @@ free-limit w h f l m e = one (rw (free-limits f) at (only-own w h (f .roleless) 
     one (here q) = q
     one (there i) = absurd (List·Memᴰ·not-nil i)
 
--- ---- it settles at the smaller of its MAX and its supertype's size
+-- ---- it settles at the smaller of its starting upper bound and its supertype's size
 
 value-at-most : (c : List ℕ) (s t : ℕ) → valueOf c (atMost s t .most) ≡ getD c t 0
 unfolding atMost valueOf productOver
@@ -100,19 +100,15 @@ module _ {table : List ℕ} {d : Diagram} (w : WellFormed d) {a : ℕ} {t : Obje
   solved : Solved d c
   solved = fixpoint-solved w (own-bounds d) (p .settled-after .defined)
 
-  starts-at : upperOfType t ≡ t .max
-  unfolding upperOfType isRoot
-  starts-at = rw (ne-eqb (t .super) 0 (f .subtype), upperOfType)
-
-  settles : size c a ≡ min (t .max) (size c (index (t .super)))
+  settles : size c a ≡ min (upperOfType t) (size c (index (t .super)))
   unfolding verdictFrom
   settles =
-      let most : ℕ = min (t .max) (size c (index (t .super))) in
+      let most : ℕ = min (upperOfType t) (size c (index (t .super))) in
       let greatest = verdict-laws d .fixpoint-iff c .0 (p .rounds, p .settled-after .defined) .1 in
       let inside : a < length c = omega (arith, count solved, at-below h) in
-      let under : most ≤ getD (upper d) a 0 = rw (upper-type d h, starts-at) (min-le-left _ _) in
+      let under : most ≤ getD (upper d) a 0 = rw (upper-type d h) (min-le-left _ _) in
       le-antisymm
-      (le-min (rw starts-at at (type-most solved h)) (type-super solved h (f .subtype)))
+      (le-min (type-most solved h) (type-super solved h (f .subtype)))
       (greatest-entry greatest a most inside under
       (λ l m e. rw (free-limit w h f l m e, value-at-most c a (index (t .super))) (min-le-right _ _)))
 
@@ -135,7 +131,7 @@ validated table d e s number q = go (populationIn d s) (rw (e, validateCall) at 
         → (a : ℕ) × (t : ObjectType) × At t (d .types) a × (number ≡ suc a) × MustPlay d number t
     go (refused n place round) z = let y : _≡_ {A = ℕ} 0 1 = cc in absurd (omega arith)
     go (accepted o) z =
-        let f : FailsK10 d o number = named-K10 d o (cc) in
+        let f : Fails (K10 d o) d o number = named-K10 d o (cc) in
         (f .place, f .type, f .standing, f .numbered, failed-must d o number (f .type) (f .members) (f .fails))
 
 -- ---- roots without roles
@@ -182,7 +178,7 @@ at-once {d} {a} {t} form h r {round = round} e = go (decLe round 1)
         omega (
           arith,
           lower-type d h,
-          each-from-at TypeForm 1 (form .types) h .some,
+          each-from-at (TypeForm (d .types)) 1 (form .types) h .some,
           round-target (limits d) (upper d) sum-limit among,
           none-played d (suc a) (r .roleless) (size (upper d)),
         )

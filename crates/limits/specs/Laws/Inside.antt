@@ -118,7 +118,7 @@ module _ (d : Diagram) (w : WellFormed d) where
   type-inside a t m =
       let e = length-upper d in
       let own : a < length (upper d) = omega (arith, e, at-below m) in
-      let super : index (t .super) < length (upper d) = omega (arith, each-from-at TypeForm 1 (w .types) m .above) in
+      let super : index (t .super) < length (upper d) = omega (arith, each-from-at (TypeForm (d .types)) 1 (w .types) m .above) in
       each-append _ _ _ (each-only-if _ (not (isRoot t)) (λ _. inside-atMost own super))
       (each-only-if _ (mustPlay d (suc a) t)
       (λ _. record { target = own; operands = select-below _ (firstRole d) (allRoles d) (omega arith) }))

@@ -6,6 +6,7 @@ use Rattle.counting.specs.Distinct
 use Rattle.pairing.specs.Pairing
 use Rattle.fixpoint.specs.Limits
 use Rattle.orm.specs.Diagram
+use Rattle.orm.specs.Supertypes
 use Rattle.orm.specs.Reader
 use Rattle.orm.specs.Form
 use Rattle.orm.specs.Text
@@ -30,10 +31,12 @@ unfolding
     Diagram.isRoot Diagram.isIndependent Diagram.isMandatory Diagram.isGrouped Diagram.plays Diagram.mustPlay Diagram.allRoles Diagram.allGroups Diagram.lineOfType
     Diagram.lineOfRole Diagram.lineOfGroup Diagram.lineOfPred Diagram.linesOfPred Diagram.lineOfCount Diagram.lines Diagram.table
     Diagram.totals
+    Supertypes.superAt Supertypes.firstAt Supertypes.lastAt Supertypes.climb Supertypes.isRootAt Supertypes.root Supertypes.firstValue Supertypes.hasRange
+    Supertypes.hasRangeAt Supertypes.nearest Supertypes.lastValue
     Reader.forEach Reader.atEnd Reader.exactly
-    Form.ranges Form.fields Form.inRange Form.inRanges Form.mostRoles Form.mostGroups Form.firstOf Form.countOf Form.valuesInOrder
-    Form.typeTests Form.predTests Form.roleTests Form.named Form.groupTests Form.endTests Form.line Form.count Form.predicate
-    Form.predicates Form.diagramLines Form.wholeDiagram Form.reading
+    Form.ranges Form.fields Form.inRange Form.inRanges Form.mostRoles Form.mostGroups Form.firstOf Form.countOf Form.withinSuper
+    Form.valuesInOrder Form.typeTests Form.predTests Form.roleTests Form.named Form.groupTests Form.endTests Form.line Form.count Form.typesAfter
+    Form.predicate Form.predicates Form.diagramLines Form.wholeDiagram Form.reading
     Text.bytes Text.key Text.separator Text.decimalWithin Text.decimal Text.valuesText Text.lineText Text.render Text.isDigit Text.digits
     Text.number Text.after Text.numbers Text.textLine Text.tableLine
     Outcome.outcomeOf Outcome.fitted Outcome.bufferAfter Outcome.written
@@ -43,7 +46,7 @@ unfolding
     Sets.mostRounds Sets.verdictFrom
     Population.cellsOfType Population.cellsOfPred Population.cells Population.block Population.rowsOf Population.typeBlock
     Population.predBlock Population.blocks Population.cutting
-    Populate.superAt Populate.firstAt Populate.rootWithin Populate.root Populate.firstValue Populate.takenBefore Populate.partTuple
+    Populate.takenBefore Populate.partTuple
     Populate.partsOfRow Populate.lookup Populate.indexInRow Populate.typeValues Populate.memberOf Populate.row Populate.rows
     Populate.population
     Constraints.played Constraints.grouped Constraints.eachType Constraints.eachPred Constraints.valuesInRoles Constraints.allPlayed

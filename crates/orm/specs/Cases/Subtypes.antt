@@ -1,40 +1,11 @@
 -- Subtypes that play no role (document 02, S-2), as one list of inputs with their outcomes, and the one theorem that they hold.
-use Prim.Native.Nat.{ℕ}
 use Prim.Native.String.{String}
 use mathlib.Core.Path.{_≡_, refl}
 use mathlib.Core.List.{List, [], _∷_, _++_, map}
-use Rattle.orm.specs.Constraints.{Answer, valid, breaks}
-use Rattle.orm.specs.Outcome.{Outcome, refused, accepted, Sized, _>>=_}
-use Rattle.orm.specs.Calls.{readCall, checkCall, validateCall}
+use Rattle.orm.specs.Constraints.{valid, breaks}
 use Rattle.orm.specs.Cases.All.{everything}
+use Rattle.orm.specs.Cases.Inputs.{Case, resultOf, settles, refuses, answers}
 use Rattle.orm.specs.Cases.Marked.{text}
-
-pub data Input : Type 0 where
-  -- a file, read and checked
-  checking : List String → Input
-  -- a file, read, and cells validated against it
-  validating : List String → List ℕ → Input
-
-pub data Result : Type 0 where
-  checked : Outcome Sized → Result
-  answered : Outcome Answer → Result
-
-pub resultOf : Input → Result
-resultOf (checking ls) = checked (readCall (text ls) 708 >>= λ t. checkCall t 208)
-resultOf (validating ls cells) = answered (readCall (text ls) 708 >>= λ t. validateCall t cells)
-
-pub record Case : Type 0 where
-  pub input : Input
-  pub result : Result
-
-settles : List String → ℕ → List ℕ → Case
-settles ls rounds sizes = record { input = checking ls; result = checked (accepted (record { rounds = rounds; result = sizes })) }
-
-refuses : List String → ℕ → ℕ → Case
-refuses ls set round = record { input = checking ls; result = checked (refused 7 set round) }
-
-answers : List String → List ℕ → Answer → Case
-answers ls cells a = record { input = validating ls cells; result = answered (accepted a) }
 
 -- A root of at most 4 members, 1..9, in a role, and these types besides it
 beside : String → List String → List String
@@ -52,13 +23,13 @@ cases =
     -- and so does each of a chain
     ∷ settles (beside "types=4" ("type=1,9,0,0,1,0" ∷ "type=1,9,0,0,2,0" ∷ "type=1,9,0,0,3,0" ∷ [])) 4 (4 ∷ 4 ∷ 4 ∷ 4 ∷ 4 ∷ 4 ∷ [])
     -- it has no more members than its supertype
-    ∷ refuses (beside "types=2" ("type=5,9,0,0,1,0" ∷ [])) 2 1
+    ∷ refuses (beside "types=2" ("type=5,9,0,0,1,0" ∷ [])) 7 2 1
     -- a root without roles is refused, also one that has a subtype with a role
-    ∷ refuses (beside "types=2" ("type=1,4,1,9,0,0" ∷ [])) 2 1
-    ∷ refuses (played "type=1,4,1,9,0,0" "type=1,4,0,0,1,0") 1 1
+    ∷ refuses (beside "types=2" ("type=1,4,1,9,0,0" ∷ [])) 7 2 1
+    ∷ refuses (played "type=1,4,1,9,0,0" "type=1,4,0,0,1,0") 7 1 1
     -- a subtype that plays a role keeps its limit
     ∷ settles (played "type=4,4,1,9,0,1" "type=1,4,0,0,1,0") 3 (4 ∷ 2 ∷ 2 ∷ 2 ∷ [])
-    ∷ refuses (played "type=4,4,1,9,0,1" "type=3,4,0,0,1,0") 2 2
+    ∷ refuses (played "type=4,4,1,9,0,1" "type=3,4,0,0,1,0") 7 2 2
     -- K10 is not for the subtype without a role; it is for the root above it, for a root without a role, and for a subtype with one
     ∷ answers (beside "types=2" ("type=1,4,0,0,1,0" ∷ [])) (2 ∷ 5 ∷ 6 ∷ 1 ∷ 6 ∷ 2 ∷ 5 ∷ 6 ∷ []) valid
     ∷ answers (beside "types=2" ("type=1,4,0,0,1,0" ∷ [])) (2 ∷ 5 ∷ 6 ∷ 1 ∷ 6 ∷ 1 ∷ 5 ∷ []) (breaks 10 1)

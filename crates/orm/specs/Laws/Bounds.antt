@@ -3,11 +3,13 @@ use Prim.Native.Nat.{ℕ, _+_, _-_, _≤_, min}
 use native.Mathlib.Omega.{arith}
 use mathlib.Core.Path.{_≡_, sym, _∙_}
 use mathlib.Core.Bool.{Bool, true, false}
+use mathlib.Core.List.{List}
 use lib.ListN.{length, length-append, length-map}
 use Rattle.counting.specs.Terms.{Each}
 use Rattle.counting.specs.Laws.Members.{each-append, each-map}
 use Rattle.counting.specs.Laws.Index.{in-at, each-from-at}
-use Rattle.orm.specs.Diagram.{ObjectType, Role, Frequency, Predicate, Diagram, isRoot, allRoles, allGroups}
+use Rattle.orm.specs.Diagram.{ObjectType, Role, Frequency, Predicate, Diagram, allRoles, allGroups}
+use Rattle.orm.specs.Supertypes.{hasRange}
 use Rattle.orm.specs.WellFormed.{TypeForm, WellFormed}
 use Rattle.orm.specs.Sets.{lower, upper, upperOfType}
 
@@ -24,9 +26,9 @@ module _ (d : Diagram) where
   pub bounds-paired : length (lower d) ≡ length (upper d)
   bounds-paired = length-lower ∙ sym length-upper
 
-type-small : (n : ℕ) (t : ObjectType) → TypeForm n t → upperOfType t ≤ 4096
+type-small : (ts : List ObjectType) (n : ℕ) (t : ObjectType) → TypeForm ts n t → upperOfType t ≤ 4096
 unfolding upperOfType
-type-small n t f = go (isRoot t)
+type-small ts n t f = go (hasRange t)
   where
     go : (b : Bool) → elim b [ true ↦ min (t .max) (t .last - t .first + 1) | false ↦ t .max ] ≤ 4096
     go true = omega (arith, f .most)
@@ -45,7 +47,9 @@ module _ (d : Diagram) (w : WellFormed d) where
       each-append _ _ _
       (each-append _ _ _
       (each-append _ _ _
-      (each-map _ upperOfType (d .types) (λ t m. let (i, at) = in-at m in type-small (1 + i) t (each-from-at TypeForm 1 (w .types) at)))
+      (each-map _ upperOfType (d .types) (λ t m.
+      let (i, at) = in-at m in
+      type-small (d .types) (1 + i) t (each-from-at (TypeForm (d .types)) 1 (w .types) at)))
       (each-map _ (λ (p : Predicate). p .max) (d .preds) (λ p m. w .preds p m .most)))
       (each-map _ (λ (r : Role). 4096) (allRoles d) (λ r m. omega arith)))
       (each-map _ (λ (f : Frequency). 4096) (allGroups d) (λ f m. omega arith))

@@ -15,14 +15,15 @@ use Rattle.counting.specs.Terms.{_∈_}
 use Rattle.counting.specs.Laws.Distinct.{all-decides, member-decides, within-decides, allDiffer-decides}
 use Rattle.counting.specs.Laws.Instances.{eqb-decides, same-decides}
 use Rattle.orm.specs.Diagram.{ObjectType, Role, Predicate, Diagram, isRoot, isIndependent, isMandatory, plays, mustPlay, allRoles}
+use Rattle.orm.specs.Supertypes.{hasRange}
 use Rattle.orm.specs.Form.{_to_, inRange}
 use Rattle.orm.specs.Population.{Population}
 use Rattle.orm.specs.Constraints.{Played, played, grouped, allPlayed, membersOf, valuesInRoles, eachType, eachPred, K1, K2, K3, K4, K5, K6, K7, K8, K9, K10, constraints, valid, breaks, firstFalse, firstBroken, answer}
-use Rattle.orm.specs.Meaning.{Between, EachType, EachPred, InRoleOf, Plays, MustPlay, M1, M2, M3, M4, M5, M6, M7, M8, M9, M10, Meets}
+use Rattle.orm.specs.Meaning.{Between, EachType, EachPred, InRoleOf, HasRange, Plays, MustPlay, M1, M2, M3, M4, M5, M6, M7, M8, M9, M10, Meets}
 
 -- ---- one test
 
-leb-decides : (m n : ℕ) → leb m n ≡ true ↔ (m ≤ n)
+pub leb-decides : (m n : ℕ) → leb m n ≡ true ↔ (m ≤ n)
 leb-decides m n = (leb-true m n, le-leb m n)
 
 pub inRange-decides : (low n high : ℕ) → inRange (low to high) n ≡ true ↔ Between low n high
@@ -30,7 +31,7 @@ unfolding inRange
 inRange-decides low n high = Iff·trans (and-eq-true-iff _ _) (Iff·and (leb-decides low n) (leb-decides n high))
 
 -- a test that is made only where another one passes, or only where it fails
-if-decides : (b t : Bool) {B P : Type 0} → b ≡ true ↔ B → t ≡ true ↔ P → elim b [ true ↦ t | false ↦ true ] ≡ true ↔ (B → P)
+pub if-decides : (b t : Bool) {B P : Type 0} → b ≡ true ↔ B → t ≡ true ↔ P → elim b [ true ↦ t | false ↦ true ] ≡ true ↔ (B → P)
 if-decides true t b p = (λ h _. p .0 h, λ f. p .1 (f (b .0 refl)))
 if-decides false t b p = (λ h x. absurd (false≢true (b .1 x)), λ f. refl)
 
@@ -56,6 +57,14 @@ mustPlay-decides d number t =
     Iff·trans (and-eq-true-iff _ _)
     (Iff·and (Iff·trans not-iff-not (Iff·not (eqb-decides .iff (t .indep) 1)))
     (or-decides _ _ (eqb-decides .iff (t .super) 0) (plays-decides number (allRoles d))))
+
+-- ---- the types that give FIRST and LAST
+
+pub hasRange-decides : (t : ObjectType) → hasRange t ≡ true ↔ HasRange t
+unfolding hasRange isRoot
+hasRange-decides t =
+    or-decides _ _ (eqb-decides .iff (t .super) 0)
+    (Iff·trans not-iff-not (Iff·not (Iff·trans (and-eq-true-iff _ _) (Iff·and (eqb-decides .iff (t .first) 0) (eqb-decides .iff (t .last) 0)))))
 
 -- A value in the roles that a type plays is in the column of one of them
 pub in-roles : (number v : ℕ) (l : List Played) → (v ∈ valuesInRoles number l) ↔ InRoleOf number l v
@@ -93,9 +102,9 @@ unfolding K2
 K2-decides n t vs = inRange-decides (t .min) (length vs) (t .max)
 
 K3-decides : (n : ℕ) (t : ObjectType) (vs : List ℕ) → K3 t vs ≡ true ↔ M3 n t vs
-unfolding K3 isRoot
+unfolding K3
 K3-decides n t vs =
-    if-decides (isRoot t) _ (eqb-decides .iff (t .super) 0)
+    if-decides (hasRange t) _ (hasRange-decides t)
     (all-decides (inRange (t .first to t .last)) (λ v. inRange-decides (t .first) v (t .last)) vs)
 
 K5-decides : (p : Predicate) (rows : List (List ℕ)) → K5 p rows ≡ true ↔ M5 p rows

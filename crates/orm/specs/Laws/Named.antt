@@ -1,5 +1,5 @@
 -- What the validator names is broken: the test of that constraint fails for the type or predicate with that number.
-use Prim.Native.Nat.{ℕ, suc, _+_}
+use Prim.Native.Nat.{ℕ, suc, _+_, _≤_}
 use native.Mathlib.Omega.{arith}
 use mathlib.Core.Path.{_≡_, refl, sym, ap, subst, _∙_}
 use mathlib.Core.Bool.{Bool, true, false}
@@ -9,7 +9,7 @@ use lib.ListN.{getD}
 use Rattle.counting.specs.Laws.Index.{At, first, later}
 use Rattle.orm.specs.Diagram.{ObjectType, Diagram}
 use Rattle.orm.specs.Population.{Population}
-use Rattle.orm.specs.Constraints.{breaks, eachType, K10, constraints, firstFalse, firstBroken, answer}
+use Rattle.orm.specs.Constraints.{breaks, eachType, K3, K10, constraints, firstFalse, firstBroken, answer}
 
 -- the first that fails fails
 failed-at : (m : ℕ) (bs : List Bool) {n : ℕ} → firstFalse m bs ≡ some n → (i : ℕ) × (n ≡ m + i) × At false bs i
@@ -34,39 +34,56 @@ named-at k (bs ∷ bss) {j} {n} e = go (firstFalse 1 bs) refl e (named-at (suc k
         let same-n : m ≡ n = cc in
         (0, omega arith, q ∙ ap some same-n)
 
+-- they count from 1
+pub breaks-from-1 : (d : Diagram) (o : Population) {j n : ℕ} → answer d o ≡ breaks j n → 1 ≤ j
+unfolding answer
+breaks-from-1 d o e = let (i, q, f) = named-at 1 (constraints d o) e in omega arith
+
 tested-at : (k : ℕ → ObjectType → List ℕ → Bool) (number : ℕ) (ts : List ObjectType) (os : List (List ℕ)) {i : ℕ}
-    → At false (eachType k number ts os) i → (t : ObjectType) × (vs : List ℕ) × At t ts i × (k (number + i) t vs ≡ false)
+    → At false (eachType k number ts os) i → (t : ObjectType) × (vs : List ℕ) × At t ts i × At vs os i × (k (number + i) t vs ≡ false)
 unfolding eachType
 tested-at k number (t ∷ ts) (vs ∷ os) (first e) =
     let z : number ≡ number + 0 = omega arith in
-    (t, vs, first refl, subst (λ (m : ℕ). k m t vs ≡ false) z (sym e))
+    (t, vs, first refl, first refl, subst (λ (m : ℕ). k m t vs ≡ false) z (sym e))
 tested-at k number (t ∷ ts) (vs ∷ os) (later {i = i} h) =
-    let (u, ws, l, q) = tested-at k (suc number) ts os h in
+    let (u, ws, l, m, q) = tested-at k (suc number) ts os h in
     let z : suc number + i ≡ number + suc i = omega arith in
-    (u, ws, later l, subst (λ (m : ℕ). k m u ws ≡ false) z q)
+    (u, ws, later l, later m, subst (λ (m : ℕ). k m u ws ≡ false) z q)
 
--- K10 fails for the type with this number
-pub record FailsK10 (d : Diagram) (o : Population) (number : ℕ) : Type 0 where
+-- A constraint on types fails for the type with this number
+pub record Fails (k : ℕ → ObjectType → List ℕ → Bool) (d : Diagram) (o : Population) (number : ℕ) : Type 0 where
   pub place : ℕ
   pub type : ObjectType
   pub members : List ℕ
   pub standing : At type (d .types) place
+  pub held : At members (o .types) place
   pub numbered : number ≡ suc place
-  pub fails : K10 d o number type members ≡ false
+  pub fails : k number type members ≡ false
 
-pub named-K10 : (d : Diagram) (o : Population) {number : ℕ} → answer d o ≡ breaks 10 number → FailsK10 d o number
-unfolding answer constraints
-named-K10 d o {number} e = nine (named-at 1 (constraints d o) e)
+-- `i` is its place among the constraints
+named-type : (k : ℕ → ObjectType → List ℕ → Bool) (d : Diagram) (o : Population) (i : ℕ) {number : ℕ} → answer d o ≡ breaks (1 + i) number
+    → getD (constraints d o) i [] ≡ eachType k 1 (d .types) (o .types) → Fails k d o number
+unfolding answer
+named-type k d o i {number} e own = go (named-at 1 (constraints d o) e)
   where
     tests : List Bool
-    tests = eachType (K10 d o) 1 (d .types) (o .types)
+    tests = eachType k 1 (d .types) (o .types)
 
-    of-type : (a : ℕ) → number ≡ 1 + a → (t : ObjectType) × (vs : List ℕ) × At t (d .types) a × (K10 d o (1 + a) t vs ≡ false) → FailsK10 d o number
-    of-type a q (t, vs, h, k) = record { place = a; type = t; members = vs; standing = h; numbered = omega arith; fails = rw q k }
+    of-type : (a : ℕ) → number ≡ 1 + a → (t : ObjectType) × (vs : List ℕ) × At t (d .types) a × At vs (o .types) a × (k (1 + a) t vs ≡ false)
+        → Fails k d o number
+    of-type a q (t, vs, h, m, f) = record { place = a; type = t; members = vs; standing = h; held = m; numbered = omega arith; fails = rw q f }
 
-    nine : (i : ℕ) × (10 ≡ 1 + i) × (firstFalse 1 (getD (constraints d o) i []) ≡ some number) → FailsK10 d o number
-    nine (i, z, f) =
-        let is-nine : i ≡ 9 = omega arith in
-        let tenth : firstFalse 1 tests ≡ some number = rw is-nine at f in
-        let (a, q, h) = failed-at 1 tests tenth in
-        of-type a q (tested-at (K10 d o) 1 (d .types) (o .types) h)
+    go : (j : ℕ) × (1 + i ≡ 1 + j) × (firstFalse 1 (getD (constraints d o) j []) ≡ some number) → Fails k d o number
+    go (j, z, f) =
+        let same : j ≡ i = omega arith in
+        let failed : firstFalse 1 tests ≡ some number = rw own at (rw same at f) in
+        let (a, q, h) = failed-at 1 tests failed in
+        of-type a q (tested-at k 1 (d .types) (o .types) h)
+
+pub named-K3 : (d : Diagram) (o : Population) {number : ℕ} → answer d o ≡ breaks 3 number → Fails (λ n. K3) d o number
+unfolding constraints
+named-K3 d o e = named-type (λ n. K3) d o 2 e refl
+
+pub named-K10 : (d : Diagram) (o : Population) {number : ℕ} → answer d o ≡ breaks 10 number → Fails (K10 d o) d o number
+unfolding constraints
+named-K10 d o e = named-type (K10 d o) d o 9 e refl

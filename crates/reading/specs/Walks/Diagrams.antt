@@ -5,19 +5,19 @@ use native.Mathlib.Nat.{zero-add}
 use mathlib.Core.Path.{_≡_, refl, sym, ap, _∙_}
 use mathlib.Core.List.{List, [], _∷_, _++_, map, flatMap, append-assoc}
 use lib.ListN.{length, getD}
-use Rattle.counting.specs.Lists.{upFrom}
 use Rattle.orm.specs.Diagram.{ObjectType, Predicate, Diagram, Line, Totals, totals, allRoles, allGroups, LineKind, diagramLine, typesLine, typeLine, predsLine, endLine, lineOfType, lineOfCount, linesOfPred, lines, table}
-use Rattle.orm.specs.Reader.{Reading, rejected, read, Reader, _>>=_, pure, forEach, atEnd, Cut}
+use Rattle.orm.specs.Reader.{Reading, rejected, read, Reader, _>>=_, pure, atEnd, Cut}
 use Rattle.orm.specs.Laws.Readers.{bind-cases}
-use Rattle.orm.specs.Form.{ranges, fields, countOf, typeOf, typeTests, endTests, line, count, predicate, predicates, diagramLines, wholeDiagram, reading}
+use Rattle.orm.specs.Form.{ranges, fields, countOf, typeOf, typeTests, endTests, line, count, typesAfter, predicate, predicates, diagramLines, wholeDiagram, reading}
 use Rattle.reading.specs.Exact.{written, written-append}
 use Rattle.reading.specs.Lines.{Cuts}
 use Rattle.reading.specs.Cutting.{tableForm}
-use Rattle.reading.specs.Spelling.{type-spelling, count-spelling}
+use Rattle.reading.specs.Spelling.{count-spelling}
 use Rattle.reading.specs.Kinds.{count-exact, end-only}
 use Rattle.reading.specs.Walk.{Summary, summary, noRoles, nothingLeft, fromEnd, fromPreds, fromPredsLine, fromTypes, fromTypesLine, fromStart}
-use Rattle.reading.specs.Walks.Lines.{resume, numbersOf, one-line, lines-each}
-use Rattle.reading.specs.Walks.Predicates.{numbered-read, rolesIn, groupsIn, ending, preds-same}
+use Rattle.reading.specs.Walks.Lines.{resume, numbersOf, one-line}
+use Rattle.reading.specs.Walks.Types.{types-same}
+use Rattle.reading.specs.Walks.Predicates.{rolesIn, groupsIn, ending, preds-same}
 
 predicates-length : (next : LineKind → List ℕ → Cut) (t r g k n : ℕ) (s : List ℕ) {ps : List Predicate} {n′ : ℕ} {rest : List ℕ}
     → predicates next t r g k n s ≡ read ps n′ rest → length ps ≡ k
@@ -28,6 +28,16 @@ predicates-length next t r g (suc k) n s {ps} e =
     bind-cases (predicates next t (r + length (p .roles)) (g + length (p .groups)) k) _ i u e′ λ qs j w h′ e″.
     let z : p ∷ qs ≡ ps = cc in
     ap length (sym z) ∙ ap suc (predicates-length next t _ _ k i u h′)
+
+types-length : (next : LineKind → List ℕ → Cut) (before : List ObjectType) (k n : ℕ) (s : List ℕ) {ts : List ObjectType} {n′ : ℕ} {rest : List ℕ}
+    → typesAfter next before k n s ≡ read ts n′ rest → length ts ≡ k
+unfolding typesAfter
+types-length next before zero n s {ts} e = let z : [] ≡ ts = cc in ap length (sym z)
+types-length next before (suc k) n s {ts} e =
+    bind-cases (line next typeLine typeOf (typeTests (suc (length before)) before)) _ n s e λ t i u h e′.
+    bind-cases (typesAfter next (before ++ t ∷ []) k) _ i u e′ λ us j w h′ e″.
+    let z : t ∷ us ≡ ts = cc in
+    ap length (sym z) ∙ ap suc (types-length next (before ++ t ∷ []) k i u h′)
 
 -- The numbers of all lines are the table
 table-numbers : (ts : List ObjectType) (ps : List Predicate)
@@ -77,7 +87,7 @@ module _ {form : LineKind → List ℕ → List ℕ} (next : LineKind → List �
   toPreds t ts = count next predsLine >>= toPredicates t ts
 
   abbrev toTypes : ℕ → Reader Diagram
-  toTypes t = forEach (λ (i : ℕ). line next typeLine typeOf (typeTests i)) (upFrom 1 t) >>= toPreds t
+  toTypes t = typesAfter next [] t >>= toPreds t
 
   abbrev upToTypes : ℕ → List ObjectType → List ℕ
   upToTypes t ts = (1 ∷ t ∷ []) ++ numbersOf (map lineOfType ts)
@@ -126,13 +136,11 @@ module _ {form : LineKind → List ℕ → List ℕ} (next : LineKind → List �
         (λ p n′ s′ q. from-predicates p n′ s′)
 
   from-types : (t n : ℕ) (s : List ℕ) → fromTypes next t 1 t (1 ∷ t ∷ []) n s ≡ closed (toTypes t) n s
-  unfolding fromTypes
+  unfolding fromTypes written flatMap
   from-types t n s =
-      lines-each next cuts typeLine typeOf lineOfType type-spelling typeTests (λ i l v. typeTests i (typeOf v)) (fromPredsLine next t) 1 t
-      (1 ∷ t ∷ []) n s (λ ext i v. refl)
-      ∙ stage (forEach (λ (i : ℕ). line next typeLine typeOf (typeTests i)) (upFrom 1 t)) (toPreds t)
-      (λ ts. fromPredsLine next t (upToTypes t ts)) n s
-      (λ ts n′ s′ q. from-preds-line t ts (numbered-read _ t n s ts n′ s′ q) n′ s′)
+      types-same next cuts (fromPredsLine next t) 1 t t [] n s
+      ∙ stage (typesAfter next [] t) (toPreds t) (λ ts. fromPredsLine next t (upToTypes t ts)) n s
+      (λ ts n′ s′ q. from-preds-line t ts (types-length next [] t n s q) n′ s′)
 
   from-types-line : (first : ℕ) → first ≡ 1 → (n : ℕ) (s : List ℕ)
       → fromTypesLine next (first ∷ []) n s ≡ closed (count next typesLine >>= toTypes) n s

@@ -71,20 +71,20 @@ each-of P Q f n (x ∷ xs) h a (there m) = each-of P Q f (suc n) xs (h .1) a m
 
 -- ---- the lines of a well-formed diagram
 
-type-small : (n : ℕ) (t : ObjectType) → n ≤ 999999 → TypeForm n t → Under 999999 (lineOfType t .values)
+type-small : (us : List ObjectType) (n : ℕ) (t : ObjectType) → n ≤ 999999 → TypeForm us n t → Under 999999 (lineOfType t .values)
 unfolding lineOfType
-type-small n t h f =
+type-small us n t h f =
     under-cons (omega (arith, f .sizes, f .most))
     (under-cons (omega (arith, f .most))
-    (under-cons (first-small n t f)
+    (under-cons (first-small us n t f)
     (under-cons (f .largest)
     (under-cons (omega (arith, f .above))
     (under-cons (omega (arith, f .indep)) (under-nil 999999))))))
 
-types-small : (n : ℕ) (ts : List ObjectType) → n + length ts ≤ 999999 → EachFrom TypeForm n ts → Small (map lineOfType ts)
-types-small n [] h f = small-nil
-types-small n (t ∷ ts) h f =
-    small-cons (lineOfType t) (map lineOfType ts) (type-small n t (omega arith) (f .0)) (types-small (suc n) ts (omega arith) (f .1))
+types-small : (us : List ObjectType) (n : ℕ) (ts : List ObjectType) → n + length ts ≤ 999999 → EachFrom (TypeForm us) n ts → Small (map lineOfType ts)
+types-small us n [] h f = small-nil
+types-small us n (t ∷ ts) h f =
+    small-cons (lineOfType t) (map lineOfType ts) (type-small us n t (omega arith) (f .0)) (types-small us (suc n) ts (omega arith) (f .1))
 
 role-small : (types groups : ℕ) (r : Role) → types ≤ 999999 → groups ≤ 999999 → RoleForm types groups r
     → Under 999999 (lineOfRole r .values)
@@ -118,7 +118,7 @@ module _ (d : Diagram) (w : WellFormed d) where
       small-append _ _
       (small-append _ _
       (small-cons _ _ (count-small 1 (omega arith))
-      (small-cons _ _ (count-small (length (d .types)) few) (types-small 1 (d .types) (omega (arith, w .typeCount .1)) (w .types))))
+      (small-cons _ _ (count-small (length (d .types)) few) (types-small (d .types) 1 (d .types) (omega (arith, w .typeCount .1)) (w .types))))
       (small-cons _ _ (count-small (length (d .preds)) (omega (arith, w .predCount .1)))
       (small-flat linesOfPred (d .preds) (λ p m. pred-small (length (d .types)) p few (w .preds p m)))))
       (small-cons _ _ (count-small (length (allRoles d)) (omega (arith, w .roleCount))) small-nil)

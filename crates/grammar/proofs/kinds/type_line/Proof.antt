@@ -1,6 +1,6 @@
 -- `grammar::kinds::type_line` meets its contract.
 -- Assumes nothing.
-use Rattle.grammar.proofs.Order.{type-leads}
+use Rattle.grammar.proofs.Order.{type-step}
 use borrow.Author.Needs.{needs}
 use Rattle.grammar.proofs.kinds.type_line.Statement.{statement}
 use Rattle.grammar.proofs.kinds.type_line.Tie as tie
@@ -13,4 +13,4 @@ type-line-spec =
     (λ c. search needs)
     (λ c κs. search needs)
     (λ c κs. search needs)
-    (λ c. search (needs, type-leads)))
+    (λ c. search (needs, type-step)))

@@ -1,6 +1,6 @@
--- `limits::ranges::type_upper` meets its contract. Of a subtype it is MAX, of a root the smaller of MAX and the number of its values.
+-- `limits::ranges::type_upper` meets its contract. It is MAX, or the smaller of MAX and the number of values in the type's range.
 -- Assumes nothing.
-use Rattle.limits.proofs.Starts.{upper-subtype, upper-values, upper-most}
+use Rattle.limits.proofs.Starts.{upper-none, upper-values, upper-most}
 use borrow.Author.Needs.{needs}
 use Rattle.limits.proofs.ranges.type_upper.Statement.{statement}
 use Rattle.limits.proofs.ranges.type_upper.Tie as tie
@@ -10,8 +10,8 @@ type-upper-spec =
     tie.close
     (tie.spec
     (λ c κs. (search needs, search needs))
-    (λ c κs. (search needs, search needs))
-    (λ c. search (needs, upper-subtype))
+    (λ c κs. search needs)
+    (λ c. search (needs, upper-none))
     (λ c κs. (search needs, search needs))
     (λ c κs. (search needs, search needs))
     (λ c κs. search needs)

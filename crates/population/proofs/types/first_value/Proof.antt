@@ -1,6 +1,6 @@
--- `population::types::first_value` meets its contract. It is the root's FIRST.
+-- `population::types::first_value` meets its contract. The types of the diagram stand behind the first two numbers.
 -- Assumes nothing.
-use Rattle.population.proofs.TypeLaws.{first-is}
+use Rattle.population.proofs.TypeLaws.{first-is, first-under}
 use borrow.Author.Needs.{needs}
 use Rattle.population.proofs.types.first_value.Statement.{statement}
 use Rattle.population.proofs.types.first_value.Tie as tie
@@ -11,4 +11,4 @@ first-value-spec =
     (tie.spec
     (λ c κs. search needs)
     (λ c κs. search needs)
-    (λ c. search (needs, first-is)))
+    (λ c. search (needs, first-is, first-under)))

@@ -1,3 +1,5 @@
 pub mod Answers
 pub mod Told
+pub mod Accepted
 pub mod Subtypes
+pub mod SubtypeRanges

@@ -86,8 +86,11 @@ fn type_breaks(d: &Diagram, population: &Population, constraint: u32, a: usize) 
         1 => values.windows(2).any(|pair| pair[0] == pair[1]),
         // "K2 type size MIN..MAX"
         2 => !(t.min as usize..=t.max as usize).contains(&values.len()),
-        // "K3 root values in FIRST..LAST"
-        3 => t.over == 0 && values.iter().any(|v| *v < t.first || *v > t.last),
+        // "K3 root values in FIRST..LAST"; it covers a subtype that gives a range.
+        3 => {
+            let outside = |(first, last)| values.iter().any(|v| *v < first || *v > last);
+            t.range().is_some_and(outside)
+        }
         // "K4 subtype within supertype"
         4 => t.over != 0 && !within(values, &population.values[t.over as usize - 1]),
         // "K10 each member of a non-independent type is in a role that type plays";

@@ -13,6 +13,15 @@ pub struct Type {
     pub indep: u32,
 }
 
+impl Type {
+    /// FIRST and LAST where the type gives them, as every root does: "A pair
+    /// 0,0 on a subtype still means none" (document 02, S-5).
+    pub fn range(&self) -> Option<(u32, u32)> {
+        let pair = (self.first, self.last);
+        (self.over == 0 || pair != (0, 0)).then_some(pair)
+    }
+}
+
 /// "`role=TYPE,MAND,GROUP`".
 #[derive(Clone, Debug, PartialEq, Eq)]
 pub struct Role {
@@ -174,8 +183,8 @@ pub fn scan(lines: impl Lines) -> Result<Diagram, Refusal> {
     scan.take("diagram", &DIAGRAM)?;
     let count = scan.take("types", &TYPES)?[0];
     let mut types = Vec::new();
-    for own in 1..=count {
-        types.push(scan_type(&mut scan, own)?);
+    for _ in 0..count {
+        types.push(scan_type(&mut scan, &types)?);
     }
     let (mut roles, mut groups) = (0, 0);
     let mut preds = Vec::new();
@@ -191,22 +200,36 @@ pub fn scan(lines: impl Lines) -> Result<Diagram, Refusal> {
     Ok(Diagram { types, preds })
 }
 
-/// 3: "SUPER not below own number"; 4: "MIN above MAX", "root with FIRST
-/// above LAST, subtype not 0,0".
-fn scan_type(scan: &mut Scan<impl Lines>, own: u32) -> Result<Type, Refusal> {
+/// 3: "SUPER not below own number"; 4: "MIN above MAX", and a pair of FIRST
+/// and LAST that is not allowed. The types are those of the lines before.
+fn scan_type(scan: &mut Scan<impl Lines>, types: &[Type]) -> Result<Type, Refusal> {
     let [min, max, first, last, over, indep] = scan.take("type", &TYPE)?;
-    scan.refuse_if(3, over >= own)?;
-    scan.refuse_if(4, min > max)?;
-    scan.refuse_if(4, over == 0 && first > last)?;
-    scan.refuse_if(4, over != 0 && (first, last) != (0, 0))?;
-    Ok(Type {
+    scan.refuse_if(3, over as usize > types.len())?;
+    let t = Type {
         min,
         max,
         first,
         last,
         over,
         indep,
-    })
+    };
+    scan.refuse_if(4, min > max || !pair_allowed(&t, types))?;
+    Ok(t)
+}
+
+/// Of a root, not "FIRST above LAST". "A subtype may now give FIRST and LAST
+/// if FIRST is its root's FIRST and LAST is not below FIRST, nor above the
+/// LAST of the nearest type above it that gives one" (document 02, S-5).
+fn pair_allowed(t: &Type, types: &[Type]) -> bool {
+    let Some((first, last)) = t.range() else {
+        return true;
+    };
+    // The types above, from the supertype to the root; none above a root.
+    let over = |t: &Type| types.get(t.over.checked_sub(1)? as usize);
+    let above = || std::iter::successors(over(t), |t| over(t));
+    let root = above().last().unwrap_or(t);
+    let nearest = above().find_map(Type::range);
+    first == root.first && first <= last && nearest.is_none_or(|(_, most)| last <= most)
 }
 
 /// "At most 96 roles and 48 groups in all; the `pred` line that passes either

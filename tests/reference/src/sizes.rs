@@ -12,16 +12,13 @@ fn floors(d: &Diagram) -> Vec<u32> {
 }
 
 /// "Starting ceiling: root, the smaller of MAX and LAST - FIRST + 1; subtype
-/// and predicate, MAX; role and group, 4096."
+/// and predicate, MAX; role and group, 4096." That of a subtype which gives a
+/// range "is then also at most LAST - FIRST + 1" (document 02, S-5).
 fn starting(d: &Diagram) -> Vec<u32> {
     let mut ceilings = Vec::new();
     for t in &d.types {
-        let root = t.over == 0;
-        ceilings.push(if root {
-            t.max.min(t.last - t.first + 1)
-        } else {
-            t.max
-        });
+        let values = t.range().map(|(first, last)| last - first + 1);
+        ceilings.push(values.map_or(t.max, |values| t.max.min(values)));
     }
     ceilings.extend(d.preds.iter().map(|p| p.max));
     ceilings.resize(ceilings.len() + d.count_roles() + d.count_groups(), 4096);

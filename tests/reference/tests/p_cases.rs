@@ -1,5 +1,5 @@
-//! The cases marked P of document 01, as far as the calls show them, and the
-//! types without roles of document 02, S-2.
+//! The cases marked P of document 01, as far as the calls show them, and of
+//! document 02 the types without roles, S-2, and the ranges on subtypes, S-5.
 
 use reference::{check, populate, program, read, validate, Refusal, Settled, Verdict};
 
@@ -213,4 +213,102 @@ fn k10_of_a_subtype_that_plays() {
     let behind = with_role(&with_types(&["1,5,0,0,1,0", "1,5,0,0,1,0"]), 4);
     let two = sample_cells(&[1, 3, 2, 1, 2], &[1, 1]);
     assert_eq!(broken(&behind, &two), (10, 4));
+}
+
+/// A diagram of these types; one row holds a member of the first.
+fn of_types(lines: &[&str]) -> String {
+    let types: String = lines.iter().map(|line| format!("type={line}\n")).collect();
+    let count = lines.len();
+    format!("diagram=1\ntypes={count}\n{types}preds=1\npred=1,1,1,0\nrole=1,0,0\nend=1\n")
+}
+
+/// The root of blanks and the small blanks under it.
+const BLANKS: &str = "1,400,1,400,0,1";
+const SMALL: &str = "1,400,1,50,1,1";
+
+/// The sizes of the types.
+fn type_sizes<const N: usize>(lines: [&str; N]) -> [u32; N] {
+    let (_, sizes) = sizes(&of_types(&lines));
+    std::array::from_fn(|a| sizes[a])
+}
+
+#[test]
+fn a_range_on_a_subtype_bounds_its_size() {
+    let small = of_types(&[BLANKS, SMALL]);
+    assert_eq!(sizes(&small), (2, vec![400, 50, 1, 1]));
+    let few = of_types(&["1,4,1,4,0,1", "1,4,1,2,1,1"]);
+    assert_eq!(cells(&few), [4, 1, 2, 3, 4, 2, 1, 2, 1, 1]);
+    // From one value to all of the root's; MAX stands beside it.
+    assert_eq!(type_sizes([BLANKS, "1,400,1,1,1,1"]), [400, 1]);
+    assert_eq!(type_sizes([BLANKS, "1,400,1,400,1,1"]), [400, 400]);
+    assert_eq!(type_sizes([BLANKS, "1,20,1,50,1,1"]), [400, 20]);
+    // It bounds the start: fewer values than MIN are seen before any round.
+    let short = of_types(&[BLANKS, "51,400,1,50,1,1"]);
+    assert_eq!(output(&short), "refused=7,2,0\n");
+}
+
+#[test]
+fn a_subtype_without_a_range_is_looked_past() {
+    let none = "1,400,0,0,2,1";
+    let same = [BLANKS, SMALL, none, "1,400,1,50,3,1"];
+    assert_eq!(type_sizes(same), [400, 50, 50, 50]);
+    // Not above the root's LAST, but above that of the nearest.
+    let above = of_types(&[BLANKS, SMALL, none, "1,400,1,51,3,1"]);
+    assert_eq!(output(&above), "refused=4,6,0\n");
+    // The nearest may be the root, also beside a narrower subtype.
+    let root = [BLANKS, "1,400,0,0,1,1", "1,400,1,400,2,1"];
+    assert_eq!(type_sizes(root), [400, 400, 400]);
+    let beside = [BLANKS, SMALL, "1,400,1,51,1,1"];
+    assert_eq!(type_sizes(beside), [400, 50, 51]);
+    // It starts at MAX: the range above it takes a round.
+    let late = of_types(&[BLANKS, SMALL, "51,400,0,0,2,1"]);
+    assert_eq!(output(&late), "refused=7,3,1\n");
+}
+
+#[test]
+fn pairs_that_a_subtype_may_not_give() {
+    let root = "1,5,10,20,0,1";
+    // FIRST below and above the root's, LAST below FIRST, LAST above the root's.
+    for pair in ["0,15", "9,15", "11,15", "10,9", "10,0", "0,10", "10,21"] {
+        let text = of_types(&[root, &format!("1,5,{pair},1,1")]);
+        assert_eq!(output(&text), "refused=4,4,0\n", "{pair}");
+    }
+    // FIRST is the root's, not that of a type which gives none.
+    let zero = of_types(&[root, "1,5,0,0,1,1", "1,5,0,15,2,1"]);
+    assert_eq!(output(&zero), "refused=4,5,0\n");
+    // MIN above MAX stands; 3 comes before 4.
+    let min = of_types(&[root, "5,1,10,15,1,1"]);
+    assert_eq!(output(&min), "refused=4,4,0\n");
+    let over = of_types(&[root, "5,1,11,9,2,1", "1,5,0,0,1,1"]);
+    assert_eq!(output(&over), "refused=3,4,0\n");
+}
+
+#[test]
+fn no_range_under_a_root_from_0() {
+    let root = "1,9,0,8,0,1";
+    assert_eq!(type_sizes([root, "1,9,0,0,1,1"]), [9, 9]);
+    assert_eq!(type_sizes([root, "1,9,0,1,1,1"]), [9, 2]);
+    let between = [root, "1,9,0,3,1,1", "1,9,0,0,2,1", "1,9,0,3,3,1"];
+    assert_eq!(type_sizes(between), [9, 4, 4, 4]);
+    let above = of_types(&[root, "1,9,0,3,1,1", "1,9,0,0,2,1", "1,9,0,4,3,1"]);
+    assert_eq!(output(&above), "refused=4,6,0\n");
+    // On a root 0,0 is the one value 0.
+    assert_eq!(type_sizes(["1,9,0,0,0,1", "1,9,0,0,1,1"]), [1, 1]);
+    let one = of_types(&["1,9,0,0,0,1", "1,9,0,1,1,1"]);
+    assert_eq!(output(&one), "refused=4,4,0\n");
+}
+
+#[test]
+fn k3_of_a_subtype() {
+    let small = of_types(&[BLANKS, SMALL]);
+    assert_eq!(broken(&small, &cells(&small)), (0, 0));
+    assert_eq!(broken(&small, &[2, 50, 51, 1, 50, 1, 51]), (0, 0));
+    assert_eq!(broken(&small, &[2, 50, 51, 1, 51, 1, 51]), (3, 2));
+    assert_eq!(broken(&small, &[1, 401, 1, 401, 1, 401]), (3, 1));
+    // A subtype that gives none is free of it, also under a root from 0.
+    let chain = of_types(&[BLANKS, "1,400,0,0,1,1", "1,400,1,50,2,1"]);
+    assert_eq!(broken(&chain, &[2, 1, 51, 2, 1, 51, 1, 1, 1, 1]), (0, 0));
+    assert_eq!(broken(&chain, &[2, 1, 51, 2, 1, 51, 1, 51, 1, 1]), (3, 3));
+    let zero = of_types(&["1,9,0,8,0,1", "1,9,0,0,1,1"]);
+    assert_eq!(broken(&zero, &[1, 8, 1, 8, 1, 8]), (0, 0));
 }

@@ -227,9 +227,10 @@ fn relax(random: &mut Random, d: &mut Diagram) {
     }
 }
 
-/// Further subtypes, which play no role, below any type or below one another.
+/// Further subtypes, which play no role, below any type, or a chain of them.
 fn add_subtypes(random: &mut Random, d: &mut Diagram, size: u32) {
-    let count = random.pick(&[1, 1, 2, 3]).min(32 - d.types.len());
+    let chain = random.chance(40);
+    let count = random.pick(&[1, 1, 2, 3, 4]).min(32 - d.types.len());
     for _ in 0..count {
         let last = d.types.len() as u32;
         d.types.push(Type {
@@ -237,7 +238,10 @@ fn add_subtypes(random: &mut Random, d: &mut Diagram, size: u32) {
             max: random.between(1, size),
             first: 0,
             last: 0,
-            over: random.between(1, last).max(random.between(1, last)),
+            over: match chain {
+                true => last,
+                false => random.between(1, last).max(random.between(1, last)),
+            },
             indep: u32::from(random.chance(25)),
         });
     }
@@ -275,25 +279,95 @@ fn ring(random: &mut Random) -> Diagram {
     Diagram { types, preds }
 }
 
-/// A root with about as many values as its floor: one may be emptied at the
-/// start.
-fn short_root(random: &mut Random, d: &mut Diagram) {
-    let own = random.below(d.types.len());
+/// The index of the root of a type.
+fn root(d: &Diagram, mut kind: usize) -> usize {
+    while d.types[kind].over != 0 {
+        kind = d.types[kind].over as usize - 1;
+    }
+    kind
+}
+
+/// The LAST of the nearest type above a subtype that gives one.
+fn nearest_last(d: &Diagram, subtype: usize) -> u32 {
+    let over = d.types[subtype].over as usize - 1;
+    match d.types[over].range() {
+        Some((_, last)) => last,
+        None => nearest_last(d, over),
+    }
+}
+
+/// The indices of the subtypes.
+fn subtypes(d: &Diagram) -> Vec<usize> {
+    let subtype = |a: &usize| d.types[*a].over != 0;
+    (0..d.types.len()).filter(subtype).collect()
+}
+
+/// The indices of the subtypes that give a range.
+fn ranged_subtypes(d: &Diagram) -> Vec<usize> {
+    let mut ranged = subtypes(d);
+    ranged.retain(|a| d.types[*a].range().is_some());
+    ranged
+}
+
+/// Ranges on most subtypes: as many values as the nearest range above has,
+/// about as many as settle without a range, about MAX, or any number of them.
+/// The one value 0 comes out as no range.
+fn add_ranges(random: &mut Random, d: &mut Diagram) {
+    let sizes = settle(d).map_or(Vec::new(), |(_, sizes)| sizes);
+    for a in subtypes(d) {
+        let first = d.types[root(d, a)].first;
+        let most = nearest_last(d, a) - first + 1;
+        let max = d.types[a].max;
+        let size = sizes.get(a).map_or(max, |size| *size);
+        let extent = match random.below(12) {
+            0..4 => continue,
+            4..6 => most,
+            6..9 => size + 1 - random.between(0, 2),
+            9 => random.between(1, size),
+            10 => max + 1 - random.between(0, 2),
+            _ => random.between(1, most),
+        };
+        let t = &mut d.types[a];
+        (t.first, t.last) = (first, first + extent.clamp(1, most) - 1);
+    }
+}
+
+/// A range with about as many values as the floor of its type, which may be
+/// emptied at the start. The ranges below are shortened with it.
+fn shorten_range(random: &mut Random, d: &mut Diagram) {
+    let own = match ranged_subtypes(d) {
+        ranged if !ranged.is_empty() && random.chance(50) => random.pick(&ranged),
+        _ => random.below(d.types.len()),
+    };
     let t = &mut d.types[own];
-    if t.over == 0 {
+    if t.range().is_some() {
         t.min = random.between(t.min, t.max);
         let extent = t.min.saturating_sub(random.between(0, 2)).max(1);
         t.last = (t.first + extent - 1).min(999_999);
+    }
+    for a in ranged_subtypes(d) {
+        d.types[a].last = d.types[a].last.min(nearest_last(d, a));
     }
 }
 
 /// A valid diagram.
 pub fn diagram(random: &mut Random) -> Diagram {
-    if random.chance(5) {
-        let mut d = ring(random);
-        tighten(random, &mut d);
-        return d;
+    let mut d = match random.chance(5) {
+        true => ring(random),
+        false => net(random),
+    };
+    if random.chance(50) {
+        add_ranges(random, &mut d);
     }
+    tighten(random, &mut d);
+    if random.chance(4) {
+        shorten_range(random, &mut d);
+    }
+    d
+}
+
+/// Types and predicates of an outline, tied at random.
+fn net(random: &mut Random) -> Diagram {
     let o = outline(random);
     let full = random.chance(40);
     let many = |random: &mut Random, most: u32| match full {
@@ -319,10 +393,6 @@ pub fn diagram(random: &mut Random) -> Diagram {
     if random.chance(70) {
         relax(random, &mut d);
     }
-    tighten(random, &mut d);
-    if random.chance(3) {
-        short_root(random, &mut d);
-    }
     d
 }
 
@@ -343,6 +413,63 @@ fn totals(random: &mut Random, d: &mut Diagram) {
     d.preds.truncate(33);
 }
 
+/// A subtype's pair that is not allowed, or only just, by itself or by what
+/// stands above it.
+fn faulty_range(random: &mut Random, d: &mut Diagram) {
+    if subtypes(d).is_empty() || random.chance(50) {
+        add_subtypes(random, d, 9);
+    }
+    let all = subtypes(d);
+    if all.is_empty() {
+        return;
+    }
+    // One below another subtype, where there is one.
+    let below = |a: &&usize| d.types[d.types[**a].over as usize - 1].over != 0;
+    let a = match all.iter().rfind(below) {
+        Some(a) if random.chance(60) => *a,
+        _ => random.pick(&all),
+    };
+    let (top, over) = (root(d, a), d.types[a].over as usize - 1);
+    let first = d.types[top].first;
+    // The nearest range above is the root's, or a narrow one.
+    let mut near = over;
+    while near != top && random.chance(65) {
+        (d.types[near].first, d.types[near].last) = (0, 0);
+        near = d.types[near].over as usize - 1;
+    }
+    if near != top {
+        let last = random.between(first, nearest_last(d, near));
+        (d.types[near].first, d.types[near].last) = (first, last);
+    }
+    let most = nearest_last(d, a);
+    let last = match random.chance(30) {
+        true => most,
+        false => random.between(first, most),
+    };
+    (d.types[a].first, d.types[a].last) = (first, last);
+    match random.below(12) {
+        // FIRST beside the root's, or anywhere up to LAST.
+        0 => d.types[a].first = first + 1,
+        1 => d.types[a].first = first.saturating_sub(1),
+        2 => d.types[a].first = random.between(0, last),
+        // LAST below FIRST.
+        3 => d.types[a].last = first.saturating_sub(1),
+        4 => d.types[a].last = random.between(0, first),
+        // LAST above the nearest's, often not above the root's.
+        5 => d.types[a].last = most + 1,
+        6 => d.types[a].last = random.between(most, d.types[top].last),
+        7 => d.types[a].last = random.between(most, 1_000_000),
+        8 => (d.types[over].first, d.types[over].last) = (first, last.saturating_sub(1)),
+        // Another FIRST of the root, another supertype, a supertype not there.
+        9 => d.types[top].first = random.pick(&[0, 1, first + 1]),
+        10 => d.types[a].over = random.between(0, a as u32),
+        _ => {
+            d.types[a].first = random.between(first, first + 1);
+            d.types[a].over = random.between(a as u32 + 1, 33);
+        }
+    }
+}
+
 /// A diagram with a fault that one line can have.
 pub fn faulty_diagram(random: &mut Random) -> Diagram {
     let mut d = diagram(random);
@@ -353,7 +480,7 @@ pub fn faulty_diagram(random: &mut Random) -> Diagram {
     let group = random.below(d.preds[at].groups.len().max(1));
     let t = &mut d.types[own];
     let p = &mut d.preds[at];
-    match random.below(12) {
+    match random.below(18) {
         0 => t.over = random.between(own as u32 + 1, 33),
         1 => t.max = random.between(0, t.min),
         2 => (t.first, t.last) = (t.last + 1, t.first),
@@ -368,6 +495,7 @@ pub fn faulty_diagram(random: &mut Random) -> Diagram {
         }
         8 | 9 => p.groups.push(Group { fmin: 1, fmax: 2 }),
         10 => totals(random, &mut d),
+        12.. => faulty_range(random, &mut d),
         _ => {
             let more = d.types[own].clone();
             d.types
@@ -556,6 +684,19 @@ impl Parts {
         Parts { types, preds }
     }
 
+    /// Every value and cell of a row, with the index of its type.
+    fn each_value(&mut self, d: &Diagram, mut change: impl FnMut(usize, &mut u32)) {
+        for (a, values) in self.types.iter_mut().enumerate() {
+            values.iter_mut().for_each(|value| change(a, value));
+        }
+        for (pred, rows) in d.preds.iter().zip(&mut self.preds) {
+            for row in rows {
+                let cells = pred.roles.iter().zip(row);
+                cells.for_each(|(role, value)| change(role.kind as usize - 1, value));
+            }
+        }
+    }
+
     fn cells(&self) -> Vec<u32> {
         let mut cells = Vec::new();
         for values in &self.types {
@@ -570,37 +711,62 @@ impl Parts {
     }
 }
 
-/// The index of the root of a type.
-fn root(d: &Diagram, mut kind: usize) -> usize {
-    while d.types[kind].over != 0 {
-        kind = d.types[kind].over as usize - 1;
-    }
-    kind
-}
-
 /// The same population with other values: each root's are spread one to one
-/// over its FIRST..LAST.
+/// over its FIRST..LAST, or those up to the least LAST of a subtype over these
+/// and the others over the rest, so that fewer leave their ranges.
 fn rename(random: &mut Random, d: &Diagram, parts: &mut Parts) {
     let (factor, shift) = (
         random.pick(&[1, 3, 4099, 65_537]),
         random.bits() % 1_000_000,
     );
-    let name = |kind: u32, value: &mut u32| {
-        let t = &d.types[root(d, kind as usize - 1)];
-        let extent = u64::from(t.last - t.first + 1);
-        let factor = if extent % factor == 0 { 1 } else { factor };
-        let place = u64::from(*value - t.first) * factor + shift;
-        *value = t.first + (place % extent) as u32;
-    };
-    for (own, values) in (1..).zip(&mut parts.types) {
-        values.iter_mut().for_each(|value| name(own, value));
-    }
-    for (pred, rows) in d.preds.iter().zip(&mut parts.preds) {
-        for row in rows {
-            let cells = pred.roles.iter().zip(row);
-            cells.for_each(|(role, value)| name(role.kind, value));
+    let mut least: Vec<u32> = d.types.iter().map(|t| t.last).collect();
+    if random.chance(60) {
+        for a in ranged_subtypes(d) {
+            let top = root(d, a);
+            least[top] = least[top].min(d.types[a].last);
         }
     }
+    parts.each_value(d, |kind, value| {
+        let top = root(d, kind);
+        let (first, last) = match *value <= least[top] {
+            true => (d.types[top].first, least[top]),
+            false => (least[top] + 1, d.types[top].last),
+        };
+        let extent = u64::from(last - first + 1);
+        let factor = if extent % factor == 0 { 1 } else { factor };
+        let place = u64::from(*value - first) * factor + shift;
+        *value = first + (place % extent) as u32;
+    });
+}
+
+/// A member of a subtype that gives a range changes places, wherever the two
+/// stand, with a value above its LAST: often K3 at the subtype is all that this
+/// breaks. Or it becomes a value below FIRST, in the subtype alone.
+fn exchange(random: &mut Random, d: &Diagram, parts: &mut Parts) {
+    let mut ranged = ranged_subtypes(d);
+    ranged.retain(|a| !parts.types[*a].is_empty());
+    if ranged.is_empty() {
+        return;
+    }
+    let a = random.pick(&ranged);
+    let at = random.below(parts.types[a].len());
+    if random.chance(15) {
+        parts.types[a][at] = d.types[a].first.saturating_sub(1);
+        return;
+    }
+    let member = parts.types[a][at];
+    let other = match random.chance(60) {
+        true => d.types[a].last + 1,
+        false => nearest_last(d, a),
+    };
+    let top = root(d, a);
+    parts.each_value(d, |kind, value| {
+        if root(d, kind) == top && *value == member {
+            *value = other;
+        } else if root(d, kind) == top && *value == other {
+            *value = member;
+        }
+    });
 }
 
 /// A member of a type that must play, mostly a subtype where there is one, is
@@ -648,8 +814,9 @@ fn change(random: &mut Random, d: &Diagram, parts: &mut Parts) {
     let values = &mut parts.types[a];
     let rows = &mut parts.preds[r];
     let count = rows.len();
-    match random.below(27) {
-        // A member more, a member fewer, a member changed, one twice, one in no role.
+    match random.below(31) {
+        // A member more, a member fewer, a member changed, one twice, one in no role,
+        // one outside its range.
         0..3 => values.push(match values.last() {
             Some(last) => last.wrapping_add(1),
             None => d.types[a].first,
@@ -668,7 +835,8 @@ fn change(random: &mut Random, d: &Diagram, parts: &mut Parts) {
             let at = random.below(values.len());
             values[at] = base;
         }
-        24.. => replace(random, d, parts),
+        24..27 => replace(random, d, parts),
+        27.. => exchange(random, d, parts),
         // A row twice, rows fewer, a row more, a cell changed.
         6 if count > 0 => {
             let (from, to) = (random.below(count), random.below(count));

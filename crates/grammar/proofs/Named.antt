@@ -6,7 +6,7 @@ use mathlib.Core.Bool.{true, false}
 use mathlib.Core.List.{List}
 use lib.ListN.{getD}
 use borrow.Author.Tests.{eq-eqb, ne-eqb}
-use Rattle.orm.specs.Form.{named}
+use Rattle.orm.specs.Form.{roleFields, named}
 use Rattle.reading.specs.Walk.{rolesAt}
 
 module _ (group : ℕ) (s : List ℕ) (first count i at : ℕ) where
@@ -25,7 +25,7 @@ module _ (group : ℕ) (s : List ℕ) (first count i at : ℕ) where
   named-here w h e q = rw (one-left h, eq-eqb (getD s (at + 2) 0) group (sym e ∙ q)) at w
 
 pub named-more : (group : ℕ) (s : List ℕ) (first count i at : ℕ) {x : ℕ} → Named group s first count i at → i < count
-    → x ≡ getD s (at + 2) 0 → (x ≡ group → ⊥) → Named group s first count (i + 1) (at + 3)
+    → x ≡ getD s (at + 2) 0 → (x ≡ group → ⊥) → Named group s first count (i + 1) (at + roleFields)
 unfolding named rolesAt
 named-more group s first count i at w h e n =
     let q : count - (i + 1) ≡ count - i - 1 = omega arith in

@@ -6,8 +6,9 @@ use mathlib.Core.Option.{Option}
 use mathlib.Core.List.{List, []}
 use native.Mathlib.Omega.{arith}
 use lib.ListN.{length, getD, drop}
+use Rattle.reading.specs.WideTable.{mostNumbers}
 use Rattle.orm.specs.Diagram.{diagramLine, typesLine, typeLine, predsLine, predLine, roleLine, freqLine, endLine}
-use Rattle.orm.specs.Form.{countOf, typeOf, roleOf, groupOf, headOf, valuesInOrder, typeTests, predTests, roleTests, named, groupTests, endTests}
+use Rattle.orm.specs.Form.{roleFields, countOf, typeOf, roleOf, groupOf, headOf, valuesInOrder, typeTests, predTests, roleTests, named, groupTests, endTests}
 use Rattle.reading.specs.Walk.{typesIn, typeTestsAt, rolesAt}
 use Rattle.grammar.specs.declared.Fault.{Fault}
 use Rattle.grammar.specs.declared.Verdict.{Verdict}
@@ -107,7 +108,7 @@ module _ {p : Awaited} (v : List ℕ) (l : length v ≡ fieldsAt p) where
   pub pred-sized : (c : Counts) → p ≡ AtPred c → length v ≡ 4
   pred-sized c e = rw e at l
 
-  pub role-sized : (b : Block) (left : ℕ) → p ≡ AtRole b left → length v ≡ 3
+  pub role-sized : (b : Block) (left : ℕ) → p ≡ AtRole b left → length v ≡ roleFields
   role-sized b left e = rw e at l
 
   pub freq-sized : (b : Block) (o left : ℕ) → p ≡ AtFreq b o left → length v ≡ 2
@@ -130,22 +131,22 @@ module _ {p : Awaited} {read : ℕ} (w : Room p read) where
   pub pred-groups : (c : Counts) → p ≡ AtPred c → c .groups ≤ 48
   pred-groups c e = known (AtPred c) e .groups
 
-  pub pred-read : (c : Counts) → p ≡ AtPred c → read ≤ 708
+  pub pred-read : (c : Counts) → p ≡ AtPred c → read ≤ mostNumbers
   pred-read c e = let k = known (AtPred c) e in omega (arith, k .numbers, k .roles, k .groups)
 
   pub freq-own : {b : Block} {left : ℕ} (own : ℕ) → p ≡ AtFreq b own left → own ≤ 6
   freq-own {b} {left} own e = let k = known (AtFreq b own left) e in omega (arith, k .2)
 
-  pub freq-first : {own left : ℕ} (b : Block) → p ≡ AtFreq b own left → b .first ≤ 708
+  pub freq-first : {own left : ℕ} (b : Block) → p ≡ AtFreq b own left → b .first ≤ mostNumbers
   freq-first {own} {left} b e = known (AtFreq b own left) e .1 .first
 
   pub freq-roles : {own left : ℕ} (b : Block) → p ≡ AtFreq b own left → b .roles ≤ 6
   freq-roles {own} {left} b e = known (AtFreq b own left) e .1 .roles
 
-pub first-small : (b : Block) → (b .first ≤ 708) × (b .roles ≤ 6) → b .first ≤ 4294967296
+pub first-small : (b : Block) → (b .first ≤ mostNumbers) × (b .roles ≤ 6) → b .first ≤ 4294967296
 first-small b h = omega (arith, h .0)
 
-pub roles-small : (b : Block) → (b .first ≤ 708) × (b .roles ≤ 6) → b .roles ≤ 4294967296
+pub roles-small : (b : Block) → (b .first ≤ mostNumbers) × (b .roles ≤ 6) → b .roles ≤ 4294967296
 roles-small b h = omega (arith, h .1)
 
 -- what a line of each kind leads to

@@ -4,6 +4,7 @@ use mathlib.Core.Bool.{Bool, true, false}
 use mathlib.Core.List.{List}
 use lib.ListN.{getD}
 use Rattle.orm.specs.Diagram.{Totals, LineKind, diagramLine, typesLine, typeLine, predsLine, predLine, roleLine, freqLine, endLine}
+use Rattle.orm.specs.Form.{roleFields}
 use Rattle.grammar.specs.declared.Counts.{Counts}
 use Rattle.grammar.specs.declared.Block.{Block}
 use Rattle.grammar.specs.declared.Awaited.{Awaited}
@@ -71,7 +72,7 @@ fieldsAt AtTypes = 1
 fieldsAt (AtType types own left) = 6
 fieldsAt (AtPreds types) = 1
 fieldsAt (AtPred c) = 4
-fieldsAt (AtRole b left) = 3
+fieldsAt (AtRole b left) = roleFields
 fieldsAt (AtFreq b own left) = 2
 fieldsAt (AtEnd c) = 1
 fieldsAt (Over c) = 1

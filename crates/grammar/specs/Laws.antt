@@ -1,3 +1,4 @@
+pub mod Faults
 pub mod Room
 pub mod Walk
 pub mod Listed

@@ -24,6 +24,8 @@ ghost use mathlib.Core.Path.{_≡_};
 ghost use mathlib.Core.List.{[]};
 ghost use Prim.Native.Nat.{_≤_};
 ghost use lib.ListN.{length};
+ghost use Rattle.orm.specs.Form.{roleFields};
+ghost use Rattle.reading.specs.WideTable.{mostNumbers};
 ghost use Rattle.grammar.specs.declared.Awaited.the-variants.{AtDiagram, AtTypes, AtPreds, AtRole, AtFreq, AtEnd};
 ghost use Rattle.grammar.specs.Fault.{faultOf};
 ghost use Rattle.grammar.specs.Step.{stepOf, stepped, stepAt, typeStep, predStep};
@@ -79,7 +81,7 @@ pub fn preds_line(types: usize, line: &[u32]) -> Step
 // A `pred` line after `read` numbers.
 pub fn pred_line(counts: Counts, read: usize, line: &[u32]) -> Step
     requires { ⌜ (counts .roles ≤ 96) × (counts .groups ≤ 48) ⌝ }
-    requires { ⌜ read ≤ 708 ⌝ }
+    requires { ⌜ read ≤ mostNumbers ⌝ }
     requires { ⌜ length (now line) ≡ 4 ⌝ }
     ensures { λ r. ⌜ stepOf r ≡ predStep counts read (now (line .entry)) ⌝ }
 {
@@ -90,7 +92,7 @@ pub fn pred_line(counts: Counts, read: usize, line: &[u32]) -> Step
 }
 
 pub fn role_line(block: Block, left: usize, line: &[u32]) -> Step
-    requires { ⌜ length (now line) ≡ 3 ⌝ }
+    requires { ⌜ length (now line) ≡ roleFields ⌝ }
     ensures { λ r. ⌜ stepOf r ≡ stepAt (AtRole block left) [] (now (line .entry)) ⌝ }
 {
     let counts = block.counts;
@@ -102,7 +104,7 @@ pub fn role_line(block: Block, left: usize, line: &[u32]) -> Step
 
 // The group with the number `own`, after lines with the numbers `before`.
 pub fn freq_line(block: Block, own: usize, left: usize, before: &[u32], line: &[u32]) -> Step
-    requires { ⌜ (block .first ≤ 708) × (block .roles ≤ 6) ⌝ }
+    requires { ⌜ (block .first ≤ mostNumbers) × (block .roles ≤ 6) ⌝ }
     requires { ⌜ own ≤ 6 ⌝ }
     requires { ⌜ length (now line) ≡ 2 ⌝ }
     ensures { λ r. ⌜ stepOf r ≡ stepAt (AtFreq block own left) (now (before .entry)) (now (line .entry)) ⌝ }

@@ -1,4 +1,5 @@
 // Single numbers and their tests.
+use lexer::lines::ROLE_FIELDS;
 ghost use mathlib.Core.Path.{_≡_};
 ghost use mathlib.Core.Bool.{_&&_};
 ghost use Prim.Native.Nat.{_-_, _≤_, _<_};
@@ -103,7 +104,7 @@ pub fn is_named(group: usize, numbers: &[u32], first: usize, count: usize) -> bo
             return true;
         }
         i += 1;
-        at += 3;
+        at += ROLE_FIELDS;
     }
     false
 }

@@ -5,7 +5,7 @@ use mathlib.Core.List.{List, [], _∷_, _++_}
 use lib.ListN.{length, drop}
 use Rattle.orm.specs.Diagram as orm
 use Rattle.orm.specs.Reader.{Cut, broken, cut}
-use Rattle.orm.specs.Form.{fields}
+use Rattle.orm.specs.Form.{fields, roleFields}
 use Rattle.orm.specs.Text as text
 use Rattle.lexer.specs.declared.Kind.{Kind}
 use Rattle.lexer.specs.declared.Kind.the-variants.{DiagramLine, TypesLine, TypeLine, PredsLine, PredLine, RoleLine, FreqLine, EndLine}
@@ -61,7 +61,7 @@ fieldsOf TypesLine = 1
 fieldsOf TypeLine = 6
 fieldsOf PredsLine = 1
 fieldsOf PredLine = 4
-fieldsOf RoleLine = 3
+fieldsOf RoleLine = roleFields
 fieldsOf FreqLine = 2
 fieldsOf EndLine = 1
 

@@ -12,6 +12,9 @@ ghost use lib.Seq.{sets};
 ghost use Rattle.orm.specs.Text.{numbers, textLine};
 ghost use Rattle.lexer.specs.Cuts.{cutAt, kindOf, fieldsOf, soundNumbers, lineNumbers};
 
+// The number of values on a role line.
+pub const ROLE_FIELDS: usize = 3;
+
 // The `n` numbers of a line, with commas between, and the line feed; those before a fault are written all the same.
 fn numbers_at(n: usize, text: &[u8], start: usize, out: &mut [u32]) -> Found
     requires { ⌜ n ≤ length (now out) ⌝ }
@@ -42,7 +45,7 @@ pub fn fields_of(kind: Kind) -> usize
     match kind {
         Kind::TypeLine => 6,
         Kind::PredLine => 4,
-        Kind::RoleLine => 3,
+        Kind::RoleLine => ROLE_FIELDS,
         Kind::FreqLine => 2,
         Kind::DiagramLine => 1,
         Kind::TypesLine => 1,

@@ -32,6 +32,10 @@ ranges endLine = unlimited ∷ []
 unfoldable pub fields : LineKind → ℕ
 fields k = length (ranges k)
 
+-- On a role line, for what counts the numbers of roles (reading: role-fields)
+abbrev pub roleFields : ℕ
+roleFields = 3
+
 unfoldable pub inRange : Range → ℕ → Bool
 inRange (low to high) v = leb low v && leb v high
 inRange unlimited v = true

@@ -4,6 +4,7 @@ use native.Mathlib.Omega.{arith}
 use mathlib.Core.Path.{_≡_, refl, sym, ap, _∙_, subst}
 use mathlib.Core.List.{List}
 use lib.ListN.{length, take}
+use Rattle.reading.specs.WideTable.{mostNumbers}
 use Rattle.orm.specs.Diagram.{Diagram, table, totals}
 use Rattle.orm.specs.Text.{textLine, tableLine}
 use Rattle.orm.specs.Outcome.{Outcome, refused, accepted, lengthOf, fitted, bufferAfter}
@@ -74,23 +75,23 @@ module _ (text numbers : List ℕ) (l : Lines) (e : linesOf numbers l ≡ summar
 
 -- ---- the numbers stand within the local table
 
-pub inside : (numbers numbers′ : List ℕ) {l : Lines} {n types preds roles groups : ℕ} → Inside 708 l → l ≡ Whole n types preds roles groups
-    → length numbers ≡ 708 → length numbers′ ≡ length numbers → n ≤ length numbers′
+pub inside : (numbers numbers′ : List ℕ) {l : Lines} {n types preds roles groups : ℕ} → Inside mostNumbers l → l ≡ Whole n types preds roles groups
+    → length numbers ≡ mostNumbers → length numbers′ ≡ length numbers → n ≤ length numbers′
 inside numbers numbers′ {l} {n} {types} {preds} {roles} {groups} w q h k =
-    let x : InsideAt 708 (Whole n types preds roles groups) = subst (λ (m : Lines). InsideAt 708 m) q (w .at) in
+    let x : InsideAt mostNumbers (Whole n types preds roles groups) = subst (λ (m : Lines). InsideAt mostNumbers m) q (w .at) in
     omega arith
 
-pub inside-refusal : (line : Line) (n : ℕ) {r : Lines} → r ≡ refusalOf line n → Inside 708 r
+pub inside-refusal : (line : Line) (n : ℕ) {r : Lines} → r ≡ refusalOf line n → Inside mostNumbers r
 inside-refusal line n e = rw e (go line)
   where
-    go : (line : Line) → Inside 708 (refusalOf line n)
+    go : (line : Line) → Inside mostNumbers (refusalOf line n)
     go (Halted f) = record { at = tt }
     go (Reached p at end) = record { at = tt }
 
-pub inside-faulty : (f : Fault) (line : ℕ) → Inside 708 (Faulty f line)
+pub inside-faulty : (f : Fault) (line : ℕ) → Inside mostNumbers (Faulty f line)
 inside-faulty f line = record { at = tt }
 
-pub inside-whole : (n types preds roles groups : ℕ) → n ≤ 708 → Inside 708 (Whole n types preds roles groups)
+pub inside-whole : (n types preds roles groups : ℕ) → n ≤ mostNumbers → Inside mostNumbers (Whole n types preds roles groups)
 inside-whole n types preds roles groups h = record { at = h }
 
 -- ---- form

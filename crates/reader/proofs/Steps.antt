@@ -8,6 +8,7 @@ use mir.Syntax.{w64}
 use mir.Val.{Fits}
 use lib.ListN.{length, take, drop, length-drop}
 use lib.Seq.{length-take-le, take-add, take-at, drop-at, drop-drop, sets, sets-eq, length-sets}
+use Rattle.reading.specs.WideTable.{mostNumbers}
 use Rattle.orm.specs.Diagram.{LineKind}
 use Rattle.orm.specs.Reader.{Cut, broken, cut}
 use Rattle.orm.specs.Text.{textLine, tableLine}
@@ -48,13 +49,13 @@ reached-refusal n e = rw e
 -- ---- room
 
 module _ {p : Awaited} {end : ℕ} (w : Room p end) (g : isGoing p ≡ true) where
-  pub room-write : (kind : Kind) (table : List ℕ) → fieldsOf kind ≡ fieldsAt p → length table ≡ 708 → end + fieldsOf kind ≤ length table
+  pub room-write : (kind : Kind) (table : List ℕ) → fieldsOf kind ≡ fieldsAt p → length table ≡ mostNumbers → end + fieldsOf kind ≤ length table
   room-write kind table e l = omega (arith, line-room p end g (w .known))
 
   pub room-fits : (n : ℕ) → n ≤ 6 → Fits w64 (end + n)
   room-fits n l = record { fits = omega (arith, line-room p end g (w .known)) }
 
-  pub room-check : (kind : Kind) {n : ℕ} (table table′ : List ℕ) → n ≡ fieldsOf kind → fieldsOf kind ≡ fieldsAt p → length table ≡ 708
+  pub room-check : (kind : Kind) {n : ℕ} (table table′ : List ℕ) → n ≡ fieldsOf kind → fieldsOf kind ≡ fieldsAt p → length table ≡ mostNumbers
       → length table′ ≡ length table → end + n ≤ length table′
   room-check kind table table′ q e l l′ = omega (arith, line-room p end g (w .known))
 

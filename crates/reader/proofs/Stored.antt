@@ -9,6 +9,7 @@ use lib.ListN.{length, take, drop, set}
 use lib.Seq.{sets}
 use Rattle.orm.specs.Reader.{Cut, broken, cut}
 use Rattle.orm.specs.Text.{textLine}
+use Rattle.reading.specs.WideTable.{mostNumbers}
 use Rattle.lexer.specs.Cuts.{lineNumbers}
 use Rattle.lexer.specs.Tails.{line-sound}
 use Rattle.grammar.specs.declared.Fault.{Fault}
@@ -78,7 +79,7 @@ reached-length p acc s q acc′ e rest x = go (textLine (kindAt p) s) refl x
 -- ---- turn by turn: line `number` at `at` is next, and the numbers so far end at `end`
 
 pub record Stored (text table₀ table : List ℕ) (p : Awaited) (number at end : ℕ) : Type 0 where
-  pub is : sets table end (writtenFrom (709 - number) p (take end table) (drop at text)) ≡ sets table₀ 0 (written text)
+  pub is : sets table end (writtenFrom (mostNumbers + 1 - number) p (take end table) (drop at text)) ≡ sets table₀ 0 (written text)
 
 -- with the walk itself, whose next line this is
 pub record Turn (text table₀ table : List ℕ) (p : Awaited) (number at end : ℕ) : Type 0 where
@@ -96,7 +97,7 @@ module _ (text table₀ table table′ : List ℕ) (p : Awaited) (number at end 
   now-going : isGoing p ≡ true
   now-going = sym eb ∙ tb
 
-  one-more : 709 - number ≡ suc (709 - (number + 1))
+  one-more : mostNumbers + 1 - number ≡ suc (mostNumbers + 1 - (number + 1))
   one-more = omega (arith, line-room p end now-going (m .known), some-fields p)
 
   pub stored-halted : {f : Fault} → line ≡ Halted f → table′ ≡ sets table₀ 0 (written text)
@@ -106,14 +107,14 @@ module _ (text table₀ table table′ : List ℕ) (p : Awaited) (number at end 
       t
       ∙ ap (sets table end)
       (sym (ap (λ (n : ℕ). writtenFrom n p (take end table) (drop at text)) one-more
-      ∙ written-halted p (take end table) (drop at text) (709 - (number + 1)) (numberOf f) now-going (sym x)))
+      ∙ written-halted p (take end table) (drop at text) (mostNumbers + 1 - (number + 1)) (numberOf f) now-going (sym x)))
       ∙ w .is
 
   pub stored-on : {q : Awaited} {at′ e : ℕ} → length (take end table) ≡ end → line ≡ Reached q at′ e
       → Stored text table₀ table′ q (number + 1) at′ e
   stored-on {q} {at′} {e} front el =
       let ws = lineNumbers (kindAt p) (drop at text) in
-      let more = writtenFrom (709 - (number + 1)) q (take e table′) (drop at′ text) in
+      let more = writtenFrom (mostNumbers + 1 - (number + 1)) q (take e table′) (drop at′ text) in
       let x : reached q (take e table′) e (drop at′ text) ≡ lineStep textLine p (take end table) (drop at text) =
       subst (λ (l : Line). lineOf text table′ l ≡ lineStep textLine p (take end table) (drop at text)) el step in
       let to : e ≡ end + length ws =
@@ -123,11 +124,11 @@ module _ (text table₀ table table′ : List ℕ) (p : Awaited) (number at end 
             ∙ sym (sets-append table end ws more)
             ∙ ap (sets table end)
             (sym (ap (λ (n : ℕ). writtenFrom n p (take end table) (drop at text)) one-more
-            ∙ written-more p (take end table) (drop at text) (709 - (number + 1)) q (take e table′) e (drop at′ text) now-going (sym x)))
+            ∙ written-more p (take end table) (drop at text) (mostNumbers + 1 - (number + 1)) q (take e table′) e (drop at′ text) now-going (sym x)))
             ∙ w .is;
       }
 
 pub stored-over : (text table₀ table : List ℕ) (p : Awaited) (number at end : ℕ) {b : Bool} → Stored text table₀ table p number at end
     → b ≡ isGoing p → b ≡ false → table ≡ sets table₀ 0 (written text)
 stored-over text table₀ table p number at end w eb fb =
-    ap (sets table end) (sym (written-over (709 - number) p (take end table) (drop at text) (sym eb ∙ fb))) ∙ w .is
+    ap (sets table end) (sym (written-over (mostNumbers + 1 - number) p (take end table) (drop at text) (sym eb ∙ fb))) ∙ w .is

@@ -9,6 +9,7 @@ use mir.Syntax.{w64}
 use mir.Val.{Fits}
 use lib.ListN.{length, getD, take, drop, drop-of-length-le}
 use lib.Seq.{length-take-le, drop-cons}
+use Rattle.reading.specs.WideTable.{mostNumbers}
 use Rattle.orm.specs.Diagram.{LineKind}
 use Rattle.orm.specs.Reader.{Cut, broken, cut}
 use Rattle.orm.specs.Form.{_unless_, firstOf, ranges, inRanges}
@@ -53,14 +54,14 @@ level-within n v e = level v e .1
 
 -- a turn from the place `p`, with the numbers so far up to `end`
 module _ (p : Awaited) {b : Bool} (end : ℕ) (w : Room p end) (eb : b ≡ isGoing p) (tb : b ≡ true) where
-  room-now : end + fieldsAt p ≤ 708
+  room-now : end + fieldsAt p ≤ mostNumbers
   room-now = line-room p end (is-going p eb tb) (w .known)
 
   pub number-fits : {number : ℕ} → number ≤ end + 1 → Fits w64 (number + 1)
   number-fits h = record { fits = omega (arith, room-now) }
 
 -- the numbers so far are as many as the place says
-pub front-text : (table : List ℕ) (p : Awaited) (end : ℕ) → Room p end → length table ≡ 708 → length (take end table) ≡ end
+pub front-text : (table : List ℕ) (p : Awaited) (end : ℕ) → Room p end → length table ≡ mostNumbers → length (take end table) ≡ end
 front-text table p end w l = length-take-le end table (omega (arith, room-most p end w))
 
 pub front-table : (table : List ℕ) (end : ℕ) → end ≤ length table → length (take end table) ≡ end
@@ -139,7 +140,7 @@ module _ {form : LineKind → List ℕ → List ℕ} (next : LineKind → List �
     pub turn-number : {number : ℕ} → number ≤ end + 1 → number + 1 ≤ e + 1
     turn-number h = omega (arith, turn-led .after, some-fields p)
 
-    pub turn-less : 708 - e < 708 - end
+    pub turn-less : mostNumbers - e < mostNumbers - end
     turn-less = omega (arith, turn-led .after, some-fields p, room-now p end w eb tb)
 
     pub turn-on : (number : ℕ) → Running next source p (take end table) number (drop at source)

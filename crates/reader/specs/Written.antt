@@ -2,6 +2,7 @@
 use Prim.Native.Nat.{ℕ, zero, suc}
 use mathlib.Core.Bool.{true, false}
 use mathlib.Core.List.{List, [], _++_}
+use Rattle.reading.specs.WideTable.{mostNumbers}
 use Rattle.orm.specs.Text.{textLine}
 use Rattle.lexer.specs.Cuts.{lineNumbers}
 use Rattle.grammar.specs.declared.Awaited.{Awaited}
@@ -21,6 +22,6 @@ writtenFrom (suc n) p acc s =
           ++ elim (lineStep textLine p acc s) [ halted c ↦ [] | reached q acc′ e rest ↦ writtenFrom n q acc′ rest ]
     ]
 
--- Of a whole text: a diagram has at most 708 numbers, and a line at least one
+-- Of a whole text: a table has at most so many numbers, and a line at least one
 unfoldable pub written : List ℕ → List ℕ
-written s = writtenFrom 708 AtDiagram [] s
+written s = writtenFrom mostNumbers AtDiagram [] s

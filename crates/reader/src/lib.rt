@@ -15,7 +15,11 @@ ghost use lib.ListN.{length, take, drop};
 ghost use Rattle.orm.specs.Text.{tableLine};
 ghost use Rattle.orm.specs.Outcome.{lengthOf, fitted, bufferAfter};
 ghost use Rattle.orm.specs.Calls.{diagramIn, readCall};
+ghost use Rattle.reading.specs.WideTable.{mostNumbers};
 ghost use Rattle.reader.specs.Answer.{conversionOf, formOf, totalled};
+
+// No table is longer.
+pub const MOST_NUMBERS: usize = 900;
 
 // Lines count from 1.
 const FIRST_LINE: usize = 1;
@@ -96,7 +100,7 @@ fn hand_out(n: usize, numbers: &[u32], table: &mut [u32]) -> Conversion
 
 // Reads a text by way of `numbers`, so that a refused call leaves the table as it was.
 fn read_by(text: &[u8], numbers: &mut [u32], table: &mut [u32]) -> Conversion
-    requires { ⌜ length (now numbers) ≡ 708 ⌝ }
+    requires { ⌜ length (now numbers) ≡ mostNumbers ⌝ }
     ensures { λ r. ⌜ conversionOf r ≡ lengthOf (readCall (now (text .entry)) (length (now (table .entry)))) ⌝ }
     ensures { λ _. ⌜ now (table .exit) ≡ bufferAfter (readCall (now (text .entry)) (length (now (table .entry)))) (now (table .entry)) ⌝ }
 {
@@ -113,9 +117,8 @@ fn read_by(text: &[u8], numbers: &mut [u32], table: &mut [u32]) -> Conversion
     }
 }
 
-// No diagram has more than 708 numbers.
-fn scratch() -> [u32; 708] {
-    [0u32; 708]
+fn scratch() -> [u32; MOST_NUMBERS] {
+    [0u32; MOST_NUMBERS]
 }
 
 // Reads a diagram from its text; its table goes to the front, and what is behind it stays.

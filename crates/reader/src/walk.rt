@@ -20,6 +20,7 @@ ghost use lib.ListN.{length, drop};
 ghost use lib.Seq.{sets};
 ghost use Rattle.orm.specs.Text.{textLine, tableLine};
 ghost use Rattle.orm.specs.Calls.{diagramIn};
+ghost use Rattle.reading.specs.WideTable.{mostNumbers};
 ghost use Rattle.lexer.specs.Cuts.{lineNumbers};
 ghost use Rattle.grammar.specs.Awaited.{kindAt, isGoing};
 ghost use Rattle.grammar.specs.Room.{Room};
@@ -41,7 +42,7 @@ fn reach(step: Step, at: usize, end: usize) -> Line
 fn text_step(place: Awaited, text: &[u8], at: usize, table: &mut [u32], end: usize) -> Line
     requires { ⌜ Room place end ⌝ }
     requires { ⌜ isGoing place ≡ true ⌝ }
-    requires { ⌜ length (now table) ≡ 708 ⌝ }
+    requires { ⌜ length (now table) ≡ mostNumbers ⌝ }
     ensures { λ r. ⌜ lineOf (now (text .entry)) (now (table .exit)) r ≡ stepFrom textLine place (now (table .entry)) end (now (text .entry)) at ⌝ }
     ensures { λ _. ⌜ now (table .exit) ≡ sets (now (table .entry)) end (lineNumbers (kindAt place) (drop at (now (text .entry)))) ⌝ }
 {
@@ -90,10 +91,10 @@ fn refusal(line: Line, number: usize) -> Lines
 
 // Reads a text; the numbers go to the front of the table, those before a fault too. Of a diagram they are its table.
 pub fn read_lines(text: &[u8], table: &mut [u32]) -> Lines
-    requires { ⌜ length (now table) ≡ 708 ⌝ }
+    requires { ⌜ length (now table) ≡ mostNumbers ⌝ }
     ensures { λ r. ⌜ endOf r ≡ ended (diagramIn textLine (now (text .entry))) ⌝ }
     ensures { λ _. ⌜ now (table .exit) ≡ sets (now (table .entry)) 0 (written (now (text .entry))) ⌝ }
-    ensures { λ r. ⌜ Inside 708 r ⌝ }
+    ensures { λ r. ⌜ Inside mostNumbers r ⌝ }
     ensures { λ r. ⌜ linesOf (now (table .exit)) r ≡ summarised (diagramIn textLine (now (text .entry))) ⌝ }
 {
     let mut place = Awaited::AtDiagram;

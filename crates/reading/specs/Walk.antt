@@ -6,7 +6,7 @@ use lib.ListN.{length, getD, drop}
 use Rattle.counting.specs.Lists.{each}
 use Rattle.orm.specs.Diagram.{ObjectType, Role, Diagram, Totals, totals, table, LineKind, diagramLine, typesLine, typeLine, predsLine, predLine, roleLine, freqLine, endLine}
 use Rattle.orm.specs.Reader.{rejected, read, Reader, Cut, broken, cut}
-use Rattle.orm.specs.Form.{Test, _unless_, firstOf, ranges, inRanges, countOf, typeOf, roleOf, groupOf, headOf, typeTests, predTests, roleTests, groupTests, endTests}
+use Rattle.orm.specs.Form.{Test, _unless_, firstOf, ranges, roleFields, inRanges, countOf, typeOf, roleOf, groupOf, headOf, typeTests, predTests, roleTests, groupTests, endTests}
 
 -- What is told of a diagram: its table, and how many types, predicates, roles and groups it has
 pub record Summary : Type 0 where
@@ -28,7 +28,7 @@ typeTestsAt own acc v = typeTests own (typesIn (own - 1) (drop 2 acc)) (typeOf v
 unfoldable pub rolesAt : List ℕ → ℕ → ℕ → List Role
 rolesAt s first zero = []
 rolesAt s first (suc k) =
-    record { type = getD s first 0; mand = getD s (first + 1) 0; group = getD s (first + 2) 0 } ∷ rolesAt s (first + 3) k
+    record { type = getD s first 0; mand = getD s (first + 1) 0; group = getD s (first + 2) 0 } ∷ rolesAt s (first + roleFields) k
 
 -- With so many more roles and groups
 abbrev pub plus : Totals → ℕ → ℕ → Totals

@@ -40,8 +40,8 @@ fn push_output(out: &mut [u8], text: &[u8]) -> usize {
     cases::push_joined(out, 0, &output[..n])
 }
 
-fn table_space() -> [u32; 708] {
-    [0u32; 708]
+fn table_space() -> [u32; reader::MOST_NUMBERS] {
+    [0u32; reader::MOST_NUMBERS]
 }
 
 // Whether reading and then writing gives the same text; nothing where reading refuses it.

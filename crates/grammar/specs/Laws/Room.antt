@@ -11,6 +11,7 @@ use Rattle.orm.specs.Diagram.{typesLine, predsLine, predLine}
 use Rattle.orm.specs.Form.{_to_, ranges, fields, mostRoles, mostGroups, headOf, predTests}
 use Rattle.orm.specs.Meaning.{Between}
 use Rattle.reading.specs.Lines.{InRanges, tested-decides}
+use Rattle.reading.specs.WideTable.{roleWidth, mostNumbers}
 use Rattle.grammar.specs.declared.Counts.{Counts}
 use Rattle.grammar.specs.declared.Block.{Block}
 use Rattle.grammar.specs.declared.Awaited.{Awaited}
@@ -32,7 +33,7 @@ fields-at (AtEnd c) = refl
 fields-at (Over c) = refl
 
 -- There is room for a line
-pub line-room : (p : Awaited) (end : ℕ) → isGoing p ≡ true → RoomAt p end → end + fieldsAt p ≤ 708
+pub line-room : (p : Awaited) (end : ℕ) → isGoing p ≡ true → RoomAt p end → end + fieldsAt p ≤ mostNumbers
 line-room AtDiagram end g k = omega arith
 line-room AtTypes end g k = omega arith
 line-room (AtType t o l) end g k = omega arith
@@ -54,10 +55,10 @@ some-fields (AtFreq b o l) = omega arith
 some-fields (AtEnd c) = omega arith
 some-fields (Over c) = omega arith
 
-pub room-most : (p : Awaited) (end : ℕ) → Room p end → end ≤ 708
+pub room-most : (p : Awaited) (end : ℕ) → Room p end → end ≤ mostNumbers
 room-most p end w = go p (w .known)
   where
-    go : (p : Awaited) → RoomAt p end → end ≤ 708
+    go : (p : Awaited) → RoomAt p end → end ≤ mostNumbers
     go AtDiagram k = omega arith
     go AtTypes k = omega arith
     go (AtType t o l) k = omega arith
@@ -99,7 +100,7 @@ groups-known b own zero done w o h =
     (record { numbers = omega (arith, w .numbers); roles = w .roles; groups = w .groups })
 groups-known b own (suc left) done w o h = (w, o, omega arith)
 
-roles-known : (b : Block) (left done : ℕ) → Within (b .counts) done (3 * left + 2 * b .groups) → Own b → RoomAt (rolesFrom b left) done
+roles-known : (b : Block) (left done : ℕ) → Within (b .counts) done (roleWidth * left + 2 * b .groups) → Own b → RoomAt (rolesFrom b left) done
 roles-known b zero done w o =
     groups-known b 1 (b .groups) done (record { numbers = omega (arith, w .numbers); roles = w .roles; groups = w .groups }) o
     (omega (arith, o .groups))

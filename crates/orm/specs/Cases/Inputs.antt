@@ -5,7 +5,7 @@ use mathlib.Core.List.{List}
 use Rattle.orm.specs.Constraints.{Answer}
 use Rattle.orm.specs.Outcome.{Outcome, refused, accepted, Sized, _>>=_}
 use Rattle.orm.specs.Calls.{readCall, checkCall, validateCall}
-use Rattle.orm.specs.Cases.Marked.{text}
+use Rattle.orm.specs.Cases.Marked.{text, tableSpace}
 
 pub data Input : Type 0 where
   -- a file, read and checked
@@ -18,8 +18,8 @@ pub data Result : Type 0 where
   answered : Outcome Answer → Result
 
 unfoldable pub resultOf : Input → Result
-resultOf (checking ls) = checked (readCall (text ls) 708 >>= λ t. checkCall t 208)
-resultOf (validating ls cells) = answered (readCall (text ls) 708 >>= λ t. validateCall t cells)
+resultOf (checking ls) = checked (readCall (text ls) tableSpace >>= λ t. checkCall t 208)
+resultOf (validating ls cells) = answered (readCall (text ls) tableSpace >>= λ t. validateCall t cells)
 
 pub record Case : Type 0 where
   pub input : Input

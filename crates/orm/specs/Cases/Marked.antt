@@ -10,6 +10,10 @@ use Rattle.orm.specs.Calls.{readCall, populateCall}
 use Rattle.orm.specs.Program.{program}
 use Rattle.orm.specs.Cases.All.{everything}
 
+-- A buffer that is long enough for every table
+abbrev pub tableSpace : ℕ
+tableSpace = 900
+
 -- Lines, each ended by a line feed
 unfoldable pub text : List String → List ℕ
 text ls = flatMap (λ (l : String). bytes l ++ 10 ∷ []) ls
@@ -44,7 +48,7 @@ writtenBy (accepted w) = w
 
 pub outcomeOf : Input → List ℕ
 outcomeOf (file ls) = program (text ls)
-outcomeOf (cellsOf ls) = writtenBy (readCall (text ls) 708 >>= λ t. written (populateCall t 16000))
+outcomeOf (cellsOf ls) = writtenBy (readCall (text ls) tableSpace >>= λ t. written (populateCall t 16000))
 outcomeOf (pairing sizes want places) = flatMap (tuples want sizes .row) places
 
 printed : ℕ → List String → List String → Case

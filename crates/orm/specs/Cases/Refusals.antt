@@ -7,7 +7,7 @@ use mathlib.Core.List.{List, [], _∷_, map}
 use Rattle.orm.specs.Outcome.{Outcome, refused, accepted, _>>=_}
 use Rattle.orm.specs.Calls.{readCall, populateCall, validateCall}
 use Rattle.orm.specs.Cases.All.{everything}
-use Rattle.orm.specs.Cases.Marked.{text, sampleWith, sample}
+use Rattle.orm.specs.Cases.Marked.{text, tableSpace, sampleWith, sample}
 
 pub data Input : Type 0 where
   -- a file, read
@@ -28,9 +28,9 @@ refusal : {A : Type 0} → Outcome A → Outcome (Unit {0})
 refusal o = o >>= λ r. accepted tt
 
 pub outcomeOf : Input → Outcome (Unit {0})
-outcomeOf (reading ls) = refusal (readCall (text ls) 708)
-outcomeOf (populating ls space) = refusal (readCall (text ls) 708 >>= λ t. populateCall t space)
-outcomeOf (validating ls cells) = refusal (readCall (text ls) 708 >>= λ t. validateCall t cells)
+outcomeOf (reading ls) = refusal (readCall (text ls) tableSpace)
+outcomeOf (populating ls space) = refusal (readCall (text ls) tableSpace >>= λ t. populateCall t space)
+outcomeOf (validating ls cells) = refusal (readCall (text ls) tableSpace >>= λ t. validateCall t cells)
 
 -- A type and the start of a predicate, for the examples of single lines
 onePredicate : List String → List String

@@ -7,10 +7,11 @@ use Rattle.orm.specs.Text.{bytes}
 use Rattle.orm.specs.Outcome.{Outcome, refused, Sized}
 use Rattle.orm.specs.Calls.{readCall, checkCall}
 use Rattle.orm.specs.Cases.All.{everything}
+use Rattle.orm.specs.Cases.Marked.{tableSpace}
 
 -- 'wrong key, digits, number of values, missing line feed, end too early, anything after the last line'
 malformed : List (Outcome (List ℕ))
-malformed = map (λ (s : String). readCall (bytes s) 708)
+malformed = map (λ (s : String). readCall (bytes s) tableSpace)
     ("diagram=1\ntype=1\n"
     ∷ "diagram=1\ntypes=1234567\n"
     ∷ "diagram=1\ntypes=\n"

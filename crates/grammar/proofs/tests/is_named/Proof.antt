@@ -3,13 +3,14 @@
 use Prim.Native.Nat.{_+_, _*_, _≤_, _-_}
 use mathlib.Core.Path.{_≡_}
 use native.Mathlib.Omega.{arith}
+use Rattle.orm.specs.Form.{roleFields}
 use Rattle.grammar.proofs.Named.{Named, named-start, named-end, named-here, named-more}
 use borrow.Author.Needs.{needs}
 use Rattle.grammar.proofs.tests.is_named.Statement.{statement}
 use Rattle.grammar.proofs.tests.is_named.Tie as tie
 
 abbrev Inv-loop : tie.InvT-loop
-Inv-loop group numbers first count i₀ at₀ i at = (i ≤ count) × (at ≡ first + 3 * i) × Named group numbers first count i at
+Inv-loop group numbers first count i₀ at₀ i at = (i ≤ count) × (at ≡ first + roleFields * i) × Named group numbers first count i at
 
 abbrev μ-loop : tie.MeasureT-loop
 μ-loop group numbers first count i₀ at₀ i at = count - i

@@ -4,6 +4,7 @@
 use Prim.Native.Nat.{_+_, _-_, _≤_}
 use mathlib.Core.Path.{_≡_}
 use lib.ListN.{length}
+use Rattle.reading.specs.WideTable.{mostNumbers}
 use Rattle.grammar.specs.Room.{Room}
 use Rattle.reading.specs.Cutting.{text-cuts}
 use Rattle.reader.proofs.Stored.{Turn, stored-start, stored-halted, stored-on, stored-over}
@@ -17,10 +18,10 @@ use Rattle.reader.proofs.walk.read_lines.Tie as tie
 
 abbrev Inv-loop : tie.InvT-loop
 Inv-loop text table₀ place₀ number₀ at₀ end₀ table place number at end =
-    (length table ≡ 708) × (number ≤ end + 1) × Room place end × Turn text table₀ table place number at end
+    (length table ≡ mostNumbers) × (number ≤ end + 1) × Room place end × Turn text table₀ table place number at end
 
 abbrev μ-loop : tie.MeasureT-loop
-μ-loop text table₀ place₀ number₀ at₀ end₀ table place number at end = 708 - end
+μ-loop text table₀ place₀ number₀ at₀ end₀ table place number at end = mostNumbers - end
 
 pub read-lines-spec : {M : Type 1} → statement M
 read-lines-spec =

@@ -2,6 +2,7 @@
 -- Assumes nothing.
 use Prim.Native.Nat.{_+_, _-_, _≤_}
 use lib.ListN.{length, take, drop}
+use Rattle.reading.specs.WideTable.{mostNumbers}
 use Rattle.orm.specs.Text.{tableLine}
 use Rattle.grammar.specs.Room.{Room}
 use Rattle.reading.specs.Cutting.{table-cuts}
@@ -17,7 +18,7 @@ Inv-loop table place₀ number₀ end₀ place number end =
     (end ≤ length table) × (number ≤ end + 1) × Room place end × Running tableLine table place (take end table) number (drop end table)
 
 abbrev μ-loop : tie.MeasureT-loop
-μ-loop table place₀ number₀ end₀ place number end = 708 - end
+μ-loop table place₀ number₀ end₀ place number end = mostNumbers - end
 
 pub table-lines-spec : {M : Type 1} → statement M
 table-lines-spec =

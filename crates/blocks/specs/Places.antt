@@ -11,12 +11,12 @@ use lib.ListN.{length, getD, take, drop, length-drop, length-take, replicate, dr
 use lib.Seq.{drop-drop, getD-take, getD-drop}
 use borrow.Author.Tests.{not-true, not-false}
 use Rattle.counting.specs.Lists.{column}
-use Rattle.orm.specs.Diagram.{ObjectType, Role}
-use Rattle.orm.specs.Form.{typeOf, roleOf}
+use Rattle.orm.specs.Diagram.{ObjectType}
+use Rattle.orm.specs.Form.{typeOf}
 use Rattle.orm.specs.Population.{rowsOf}
 use Rattle.orm.specs.Constraints.{membersOf}
-use Rattle.table.specs.Positions.{predOf, predLength, rolesIn, predsIn, typeCount, predCount, firstPredAt, diagramOf}
-use Rattle.table.specs.Laws.Walks.{each-length, preds-more, preds-none}
+use Rattle.table.specs.Positions.{predOf, predLength, predsIn, typeCount, predCount, firstPredAt, diagramOf}
+use Rattle.table.specs.Laws.Walks.{each-length, role-count, preds-more, preds-none}
 use Rattle.columns.specs.declared.Column.{Column}
 use Rattle.columns.specs.declared.Rows.{Rows}
 use Rattle.columns.specs.Values.{spaced, valuesIn}
@@ -127,7 +127,7 @@ module _ (t s : List ℕ) (pred at left : ℕ) (all : End) where
     more-preds : (next : ℕ) → next ≡ pred + predLength (drop pred t)
         → endOf s (w ∷ map predWidth (predsIn (left - 1) (drop next t))) at ≡ all
     more-preds next q =
-        let z : predWidth (predOf (drop pred t)) ≡ w = each-length roleOf 3 (getD (drop pred t) 2 0) (drop 4 (drop pred t)) ∙ sym (ew ∙ ev) in
+        let z : predWidth (predOf (drop pred t)) ≡ w = role-count (drop pred t) ∙ sym (ew ∙ ev) in
         rw (← z) (rw (preds-more t pred left h q) at i)
 
     pub preds-short : not b ≡ true → Short ≡ all
@@ -259,9 +259,4 @@ column-is s at width j first start h p q e f = rw (q, p, f, e) (column-spaced (g
 -- ---- the roles of the predicate at `pred` in the table
 
 pub width-is : (t : List ℕ) (pred : ℕ) {v w : ℕ} → v ≡ getD (drop pred t) 2 0 → w ≡ v → w ≡ predWidth (predOf (drop pred t))
-width-is t pred e f = f ∙ e ∙ sym (each-length roleOf 3 (getD (drop pred t) 2 0) (drop 4 (drop pred t)))
-
-pub roles-at : (t : List ℕ) (pred : ℕ) {w : ℕ} → w ≡ predWidth (predOf (drop pred t))
-    → rolesIn w (drop (pred + 4) t) ≡ predOf (drop pred t) .roles
-roles-at t pred e =
-    ap₂ {C = List Role} (λ n l. rolesIn n l) (e ∙ each-length roleOf 3 (getD (drop pred t) 2 0) (drop 4 (drop pred t))) (sym (drop-drop 4 pred t))
+width-is t pred e f = f ∙ e ∙ sym (role-count (drop pred t))

@@ -7,14 +7,13 @@ use lib.ListN.{length, getD, drop, length-drop}
 use Rattle.counting.specs.Terms.{Each, Each2}
 use Rattle.counting.specs.Laws.Members.{each-head, each-tail}
 use Rattle.orm.specs.Diagram.{Predicate}
-use Rattle.orm.specs.Form.{roleOf}
 use Rattle.orm.specs.Meaning.{Rows}
 use Rattle.orm.specs.Outcome.{accepted}
 use Rattle.orm.specs.Calls.{populationIn}
 use Rattle.orm.specs.Laws.Cells.{population-in-iff}
 use Rattle.table.specs.Positions.{predOf, predLength, predsIn, predCount, firstPredAt, diagramOf}
 use Rattle.table.specs.Cursors.{Ahead}
-use Rattle.table.specs.Laws.Walks.{preds-more, each-length, ahead-start, ahead-here, ahead-more}
+use Rattle.table.specs.Laws.Walks.{preds-more, ahead-start, ahead-here, ahead-more}
 use Rattle.table.specs.Laws.Valid.{valid-walkable}
 use Rattle.table.specs.Valid.{Valid}
 use Rattle.columns.specs.declared.Column.{Column}
@@ -24,7 +23,7 @@ use Rattle.blocks.specs.Places.{ColumnHere}
 
 -- The predicate at `pred` of the table is there and has few roles, and its rows at `at` of the cells have a cell for each
 pub record PredHere (t s : List ℕ) (pred at : ℕ) : Type 0 where
-  pub inside : pred + (4 + 3 * predWidth (predOf (drop pred t)) + 2 * getD (drop pred t) 3 0) ≤ length t
+  pub inside : pred + predLength (drop pred t) ≤ length t
   pub few : predWidth (predOf (drop pred t)) ≤ 6
   pub wide : Each (λ (row : List ℕ). length row ≡ predWidth (predOf (drop pred t))) (rowsAt (predWidth (predOf (drop pred t))) (drop at s))
 
@@ -63,7 +62,7 @@ module _ (t s : List ℕ) (pred at left : ℕ) (st : Standing t s pred at left) 
       rw (preds-more t pred left h refl) at (st .few) in
       let wide = rw (preds-more t pred left h refl) at (st .wide) in
       record {
-        inside = rw (each-length roleOf 3 (getD (drop pred t) 2 0) (drop 4 (drop pred t))) (ahead-here t pred left (st .ahead) h);
+        inside = ahead-here t pred left (st .ahead) h;
         few = each-head _ few;
         wide = wide .0;
       }

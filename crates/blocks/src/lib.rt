@@ -237,6 +237,7 @@ pub fn column(cells: &[u32], at: usize, width: usize, j: usize) -> Column
 pub fn width(t: &[u32], pred: usize) -> usize
     requires { ⌜ Walkable (now t) ⌝ }
     ensures { λ r. ⌜ r ≡ predWidth (predOf (drop pred (now (t .entry)))) ⌝ }
+    ensures { λ r. ⌜ r ≡ getD (drop pred (now (t .entry))) 2 0 ⌝ }
     ensures { λ r. ⌜ r ≤ 999999 ⌝ }
 {
     table::index(table::field(t, pred, 2))

@@ -1,97 +1,52 @@
--- The check of a table: what the reader says of it, and what a valid one leads to.
+-- The check of a table: what accepting it says, and what a valid one leads to.
 use Prim.Native.Nat.{ℕ, _≤_}
 use native.Mathlib.Omega.{arith}
 use mathlib.Core.Path.{_≡_, refl, sym, ap, _∙_}
 use mathlib.Core.List.{List}
 use lib.ListN.{length, take}
 use lib.Seq.{length-take-le}
-use Rattle.orm.specs.Diagram.{Diagram, Totals, totals, allRoles, allGroups, table}
 use Rattle.orm.specs.Text.{tableLine}
-use Rattle.orm.specs.Sets.{lower, upper, limits, verdict, verdictFrom}
-use Rattle.orm.specs.Outcome.{Outcome, refused, accepted, _>>=_, bufferAfter, Sized, written, handedBack}
+use Rattle.orm.specs.Sets.{lower, upper, limits, verdictFrom}
+use Rattle.orm.specs.Outcome.{bufferAfter, written}
 use Rattle.orm.specs.Calls.{diagramIn, settledInto, checkCall}
 use Rattle.fixpoint.specs.Limits.{run}
-use Rattle.grammar.specs.Fault.{numberOf}
-use Rattle.reader.specs.Answer.{formOf, totalled}
 use Rattle.grammar.specs.declared.Fault.{Fault}
-use Rattle.reader.specs.declared.FormAnswer.{FormAnswer}
-use Rattle.reader.specs.declared.FormAnswer.the-variants as forms
+use Rattle.widening.specs.Answer.{acceptanceOf, described, widened, Accepted}
+use Rattle.widening.specs.Laws.Accepts.{accepted-refused, accepted-as}
+use Rattle.widening.specs.declared.Acceptance.{Acceptance}
+use Rattle.widening.specs.declared.Acceptance.the-variants as acceptances
 use Rattle.rounds.specs.Answer.{Bounds, Scratch}
 use Rattle.lowering.specs.Encoding.{encode, decode}
 use Rattle.lowering.specs.Laws.Decoding.{decode-encode}
 use Rattle.buffer.specs.Laws.{wrote-end, wrote-front, wrote-within}
 use Rattle.table.specs.Positions.{diagramOf}
 use Rattle.table.specs.Valid.{Valid}
-use Rattle.table.specs.Laws.Valid.{accepted-valid, valid-walkable, sets-few}
+use Rattle.table.specs.Laws.Valid.{sets-few}
 use Rattle.orm.specs.Laws.Bounds.{length-lower, bounds-paired, lower-few}
-use Rattle.reading.specs.Laws.{table-accepted-iff}
 use Rattle.limits.specs.Prepared.{ValidTotals, Roomy, Prepared}
 use Rattle.limits.specs.declared.Extent.{Extent}
 use Rattle.limits.specs.Laws.Room.{limits-fit, few-limits-fit}
 use Rattle.limits.specs.Laws.Start.{start-bounds}
-use Rattle.bounds.specs.Answer.{settlementOf, Answered, unchanged, Space}
+use Rattle.bounds.specs.Answer.{Answered, unchanged, checked, Space}
 use Rattle.bounds.specs.declared.Settlement.{Settlement}
 use Rattle.bounds.specs.declared.Settlement.the-variants.{Refused}
 
--- ---- what the reader says
+-- ---- what accepting the table says
 
-refused-is : (o : Outcome Diagram) {r : FormAnswer} {f : Fault} {line : ℕ} → r ≡ forms.Refused f line → formOf r ≡ totalled o
-    → o ≡ refused (numberOf f) line 0
-refused-is (refused c place round) {r} {f} {line} p e = let q : formOf r ≡ refused (numberOf f) line 0 = ap formOf p in cc
-refused-is (accepted d) {r} {f} {line} p e =
-    let q : formOf r ≡ refused (numberOf f) line 0 = ap formOf p in
-    let z : _≡_ {A = ℕ} 0 1 = cc in
-    absurd (omega arith)
+module _ (t b : List ℕ) {r : Acceptance} {f : Fault} {line : ℕ} (p : r ≡ acceptances.Refused f line)
+    (e : acceptanceOf r ≡ described (diagramIn tableLine t)) where
+  pub table-refused : Answered (checkCall t (length b)) (Refused f line) b b
+  unfolding checkCall written bufferAfter
+  table-refused = rw (accepted-refused t p e, checkCall) (record { handed = refl; buffer = refl })
 
-module _ (t b : List ℕ) {r : FormAnswer} {f : Fault} {line : ℕ} (p : r ≡ forms.Refused f line)
-    (e : formOf r ≡ totalled (diagramIn tableLine t)) where
-  call-refused : checkCall t (length b) ≡ refused (numberOf f) line 0
+module _ (t w : List ℕ) {w′ : List ℕ} {r : Acceptance} {n a b c d : ℕ} (p : r ≡ acceptances.Widened n a b c d)
+    (e : acceptanceOf r ≡ described (diagramIn tableLine t)) (ew : w′ ≡ bufferAfter (widened t) w) where
+  known : Accepted t (take n w′) a b c d
+  known = accepted-as t w p e ew
+
+  pub table-checked : {o o′ : List ℕ} {x : Settlement} → Answered (checked (take n w′) (length o)) x o o′ → Answered (checkCall t (length o)) x o o′
   unfolding checkCall
-  call-refused = ap (λ (o : Outcome Diagram). o >>= λ d. settledInto 7 unchanged (verdict d) (length b)) (refused-is (diagramIn tableLine t) p e)
-
-  pub table-refused : settlementOf (Refused f line) ≡ handedBack (checkCall t (length b))
-  table-refused = ap handedBack (sym call-refused)
-
-  pub table-kept : b ≡ bufferAfter (written (checkCall t (length b))) b
-  unfolding written bufferAfter
-  table-kept = ap (λ (o : Outcome Sized). bufferAfter (written o) b) (sym call-refused)
-
-module _ (t : List ℕ) {r : FormAnswer} {a b c d : ℕ} (p : r ≡ forms.Accepted a b c d) (e : formOf r ≡ totalled (diagramIn tableLine t)) where
-  table-known : Valid t × totals (diagramOf t) ≡ record { types = a; preds = b; roles = c; groups = d }
-  table-known = go (diagramIn tableLine t) refl e
-    where
-      go : (o : Outcome Diagram) → diagramIn tableLine t ≡ o → formOf r ≡ totalled o
-          → Valid t × totals (diagramOf t) ≡ record { types = a; preds = b; roles = c; groups = d }
-      go (refused n place round) q h =
-          let s : formOf r ≡ accepted (record { types = a; preds = b; roles = c; groups = d }) = ap formOf p in
-          let z : _≡_ {A = ℕ} 0 1 = cc in
-          absurd (omega arith)
-      go (accepted x) q h =
-          let s : formOf r ≡ accepted (record { types = a; preds = b; roles = c; groups = d }) = ap formOf p in
-          let v : Valid t = accepted-valid t x q in
-          let u : diagramIn tableLine t ≡ accepted (diagramOf t) = v .reads in
-          (v, cc)
-
-  table-roles : c ≡ length (allRoles (diagramOf t))
-  unfolding totals
-  table-roles = ap (λ (x : Totals). x .roles) (sym (table-known .1))
-
-  table-groups : d ≡ length (allGroups (diagramOf t))
-  unfolding totals
-  table-groups = ap (λ (x : Totals). x .groups) (sym (table-known .1))
-
-  pub roles-narrow : c ≤ 96
-  roles-narrow = omega (arith, table-roles, table-known .0 .formed .roleCount)
-
-  pub groups-narrow : d ≤ 96
-  groups-narrow = omega (arith, table-groups, table-known .0 .formed .groupCount)
-
-  pub table-counted : {roles groups : ℕ} → roles ≡ c → groups ≡ d → ValidTotals t roles groups
-  table-counted er eg = record {
-    valid = table-known .0;
-    walkable = valid-walkable (table-known .0);
-    counted = record { roles-are = er ∙ table-roles; groups-are = eg ∙ table-groups };
-  }
+  table-checked h = rw (known .reads, checkCall) h
 
 -- ---- a valid table
 
@@ -158,26 +113,17 @@ module _ {t ls low up next changed links : List ℕ} (space : Space t ls low up 
             };
           }
 
-      check-is : (space : ℕ) → checkCall t space ≡ settledInto 7 unchanged (verdict (diagramOf t)) space
-      unfolding checkCall
-      check-is space = ap (λ (o : Outcome Diagram). o >>= λ d. settledInto 7 unchanged (verdict d) space) (v .reads)
-
-      pub checked : {o o′ : List ℕ} {a : Settlement}
+      pub check-is : {o o′ : List ℕ} {a : Settlement}
           → Answered (settledInto 7 unchanged (run (decode (take (r .limits) ls′)) (take (r .sets) low′) (take (r .sets) up′)) (length o)) a o o′
-          → Answered (checkCall t (length o)) a o o′
+          → Answered (checked t (length o)) a o o′
       unfolding verdictFrom
-      checked {o} h =
-          rw (check-is (length o))
-          (rw (ap decode limits-front ∙ decode-encode (limits (diagramOf t)), lower-front, upper-front) at h)
+      check-is {o} h = rw (ap decode limits-front ∙ decode-encode (limits (diagramOf t)), lower-front, upper-front) at h
 
 -- ---- scratch that is set aside
 
 module _ {t : List ℕ} {roles groups : ℕ} (known : ValidTotals t roles groups) (a b c d e f : List ℕ) where
   few : length (lower (diagramOf t)) ≤ 208
   few = lower-few (diagramOf t) (known .valid .formed)
-
-  whole : t ≡ table (diagramOf t)
-  whole = table-accepted-iff t (diagramOf t) .0 (known .valid .reads) .0
 
   pub space-any : length a ≡ 3776 → length b ≡ 208 → length c ≡ 208 → length d ≡ 208 → length e ≡ 208 → length f ≡ 7760
       → Space t a b c d e f
@@ -196,7 +142,7 @@ module _ {t : List ℕ} {roles groups : ℕ} (known : ValidTotals t roles groups
       → Space t a b c d e f
   space-short h ha hb hc hd he hf =
       let m : length (encode (limits (diagramOf t))) ≤ 600 =
-      few-limits-fit (diagramOf t) (known .valid .formed) (omega (arith, ap length whole)) in
+      few-limits-fit (diagramOf t) (known .valid .formed) (omega (arith, ap length (known .valid .is))) in
       let n : length (lower (diagramOf t)) ≤ 30 = omega (arith, sets-few t (known .valid), bounds-paired (diagramOf t)) in
       record {
         limits-room = omega arith;

@@ -3,10 +3,13 @@ use Prim.Native.Nat.{ℕ, _+_, _*_, _≤_}
 use mathlib.Core.Path.{_≡_}
 use mathlib.Core.List.{List}
 use lib.ListN.{length}
+use Rattle.fixpoint.specs.Limits.{fixpoint}
 use Rattle.orm.specs.Outcome.{Outcome, refused, accepted, bufferAfter, Sized, written, Handed, handedBack}
-use Rattle.orm.specs.Sets.{lower, limits}
+use Rattle.orm.specs.Sets.{lower, limits, verdict}
+use Rattle.orm.specs.Calls.{settledInto}
 use Rattle.lowering.specs.Encoding.{encode}
 use Rattle.table.specs.Positions.{diagramOf}
+use Rattle.table.specs.Valid.{Valid}
 use Rattle.grammar.specs.Fault.{numberOf}
 use Rattle.bounds.specs.declared.Settlement.{Settlement}
 use Rattle.bounds.specs.declared.Settlement.the-variants.{Refused, Unsatisfiable, TooShort, Accepted}
@@ -26,6 +29,15 @@ pub record Answered (o : Outcome Sized) (r : Settlement) (before after : List �
 -- What the check makes of the settled sizes
 abbrev pub unchanged : List ℕ → List ℕ
 unchanged c = c
+
+-- The outcome of the check of a valid table
+abbrev pub checked : List ℕ → ℕ → Outcome Sized
+checked t space = settledInto 7 unchanged (verdict (diagramOf t)) space
+
+-- The rounds of a valid table's diagram end with these sizes, after so many
+pub record Settled (t c : List ℕ) (rounds : ℕ) : Type 0 where
+  pub valid : Valid t
+  pub ended : verdict (diagramOf t) ≡ fixpoint rounds c
 
 -- Scratch for the check of a table: for the limits and the links of their operands, and for the bounds of all sets
 pub record Space (t limits′ low up next changed links : List ℕ) : Type 0 where

@@ -1,5 +1,6 @@
-// The check: the sizes of a diagram's sets, from its table. The bounds and limits of the sets are
-// written into local arrays, and the rounds run over them.
+// The check: the sizes of a diagram's sets, from its table. The table is widened, the bounds and
+// limits of the sets are written into local arrays, and the rounds run over them.
+use widening::Acceptance;
 ghost use mathlib.Core.Path.{_≡_};
 ghost use Prim.Native.Nat.{_≤_};
 ghost use lib.ListN.{length};
@@ -9,7 +10,8 @@ ghost use Rattle.rounds.specs.Answer.{Bounds, Scratch};
 ghost use Rattle.limits.specs.Prepared.{ValidTotals};
 ghost use Rattle.orm.specs.Outcome.{bufferAfter, written, handedBack};
 ghost use Rattle.orm.specs.Calls.{settledInto, checkCall};
-ghost use Rattle.bounds.specs.Answer.{settlementOf, Answered, unchanged, Space};
+ghost use Rattle.reading.specs.WideTable.{mostNumbers};
+ghost use Rattle.bounds.specs.Answer.{settlementOf, Answered, unchanged, checked, Space};
 
 // How a check ends, or any call that makes something of the settled sizes: the table is refused (1 to
 // 6), a set is emptied (7), the buffer is too short for the result (8), or the result stands at its
@@ -69,7 +71,7 @@ fn settle(
 // The check of a valid table with so many roles and groups; what stands between them and the sizes is
 // scratch, `next` first for the types of the roles.
 fn check_in(
-    table: &[u32],
+    t: &[u32],
     roles: u32,
     groups: u32,
     limits: &mut [u32],
@@ -80,11 +82,11 @@ fn check_in(
     links: &mut [u32],
     sizes: &mut [u32],
 ) -> Settlement
-    requires { ⌜ ValidTotals (now table) roles groups ⌝ }
-    requires { ⌜ Space (now table) (now limits) (now lower) (now upper) (now next) (now changed) (now links) ⌝ }
-    ensures { λ r. ⌜ Answered (checkCall (now (table .entry)) (length (now (sizes .entry)))) r (now (sizes .entry)) (now (sizes .exit)) ⌝ }
+    requires { ⌜ ValidTotals (now t) roles groups ⌝ }
+    requires { ⌜ Space (now t) (now limits) (now lower) (now upper) (now next) (now changed) (now links) ⌝ }
+    ensures { λ r. ⌜ Answered (checked (now (t .entry)) (length (now (sizes .entry)))) r (now (sizes .entry)) (now (sizes .exit)) ⌝ }
 {
-    let extent = limits::prepare(table, roles, groups, next, limits, lower, upper);
+    let extent = limits::prepare(t, roles, groups, next, limits, lower, upper);
     let m = extent.limits;
     let n = extent.sets;
     settle(
@@ -132,9 +134,9 @@ fn few_links() -> [u32; 1232] {
 }
 
 // Sets aside scratch for every table.
-fn check_any(table: &[u32], roles: u32, groups: u32, sizes: &mut [u32]) -> Settlement
-    requires { ⌜ ValidTotals (now table) roles groups ⌝ }
-    ensures { λ r. ⌜ Answered (checkCall (now (table .entry)) (length (now (sizes .entry)))) r (now (sizes .entry)) (now (sizes .exit)) ⌝ }
+fn check_any(t: &[u32], roles: u32, groups: u32, sizes: &mut [u32]) -> Settlement
+    requires { ⌜ ValidTotals (now t) roles groups ⌝ }
+    ensures { λ r. ⌜ Answered (checked (now (t .entry)) (length (now (sizes .entry)))) r (now (sizes .entry)) (now (sizes .exit)) ⌝ }
 {
     let mut limits = limit_space();
     let mut lower = set_space();
@@ -143,7 +145,7 @@ fn check_any(table: &[u32], roles: u32, groups: u32, sizes: &mut [u32]) -> Settl
     let mut changed = place_space();
     let mut links = link_space();
     check_in(
-        table,
+        t,
         roles,
         groups,
         &mut limits,
@@ -157,10 +159,10 @@ fn check_any(table: &[u32], roles: u32, groups: u32, sizes: &mut [u32]) -> Settl
 }
 
 // Sets aside scratch for a short table: clearing as much as for every table takes longer than its rounds.
-fn check_short(table: &[u32], roles: u32, groups: u32, sizes: &mut [u32]) -> Settlement
-    requires { ⌜ ValidTotals (now table) roles groups ⌝ }
-    requires { ⌜ length (now table) ≤ 64 ⌝ }
-    ensures { λ r. ⌜ Answered (checkCall (now (table .entry)) (length (now (sizes .entry)))) r (now (sizes .entry)) (now (sizes .exit)) ⌝ }
+fn check_short(t: &[u32], roles: u32, groups: u32, sizes: &mut [u32]) -> Settlement
+    requires { ⌜ ValidTotals (now t) roles groups ⌝ }
+    requires { ⌜ length (now t) ≤ 64 ⌝ }
+    ensures { λ r. ⌜ Answered (checked (now (t .entry)) (length (now (sizes .entry)))) r (now (sizes .entry)) (now (sizes .exit)) ⌝ }
 {
     let mut limits = few_limits();
     let mut lower = few_sets();
@@ -169,7 +171,7 @@ fn check_short(table: &[u32], roles: u32, groups: u32, sizes: &mut [u32]) -> Set
     let mut changed = few_places();
     let mut links = few_links();
     check_in(
-        table,
+        t,
         roles,
         groups,
         &mut limits,
@@ -182,21 +184,41 @@ fn check_short(table: &[u32], roles: u32, groups: u32, sizes: &mut [u32]) -> Set
     )
 }
 
-fn check_valid(table: &[u32], roles: u32, groups: u32, sizes: &mut [u32]) -> Settlement
-    requires { ⌜ ValidTotals (now table) roles groups ⌝ }
-    ensures { λ r. ⌜ Answered (checkCall (now (table .entry)) (length (now (sizes .entry)))) r (now (sizes .entry)) (now (sizes .exit)) ⌝ }
-{
-    if table.len() <= 64 {
-        return check_short(table, roles, groups, sizes);
-    }
-    check_any(table, roles, groups, sizes)
-}
-
+// A number of roles or groups.
 fn count(x: usize) -> u32
     requires { ⌜ x ≤ 96 ⌝ }
     ensures { λ r. ⌜ r ≡ x ⌝ }
 {
     x as u32
+}
+
+// Writes the sizes of the sets of a valid table's diagram, which has so many roles and groups.
+pub fn check_valid(t: &[u32], roles: usize, groups: usize, sizes: &mut [u32]) -> Settlement
+    requires { ⌜ ValidTotals (now t) roles groups ⌝ }
+    ensures { λ r. ⌜ Answered (checked (now (t .entry)) (length (now (sizes .entry)))) r (now (sizes .entry)) (now (sizes .exit)) ⌝ }
+{
+    if t.len() <= 64 {
+        return check_short(t, count(roles), count(groups), sizes);
+    }
+    check_any(t, count(roles), count(groups), sizes)
+}
+
+// The check of any table; `wide` is scratch.
+fn check_table(table: &[u32], wide: &mut [u32], sizes: &mut [u32]) -> Settlement
+    requires { ⌜ length (now wide) ≡ mostNumbers ⌝ }
+    ensures { λ r. ⌜ Answered (checkCall (now (table .entry)) (length (now (sizes .entry)))) r (now (sizes .entry)) (now (sizes .exit)) ⌝ }
+{
+    let acceptance = widening::accept(table, wide);
+    match acceptance {
+        Acceptance::Refused { fault, line } => Settlement::Refused { fault, line },
+        Acceptance::Widened {
+            length,
+            types: _,
+            preds: _,
+            roles,
+            groups,
+        } => check_valid(&wide[..length], roles, groups, sizes),
+    }
 }
 
 // Writes the sizes of the sets of a table's diagram, in set order.
@@ -206,14 +228,6 @@ pub fn check(table: &[u32], sizes: &mut [u32]) -> Settlement
         ⌜ now (sizes .exit)
         ≡ bufferAfter (written (checkCall (now (table .entry)) (length (now (sizes .entry))))) (now (sizes .entry)) ⌝ }
 {
-    let form = reader::form(table);
-    match form {
-        reader::FormAnswer::Refused { fault, line } => Settlement::Refused { fault, line },
-        reader::FormAnswer::Accepted {
-            types: _,
-            preds: _,
-            roles,
-            groups,
-        } => check_valid(table, count(roles), count(groups), sizes),
-    }
+    let mut wide = widening::scratch();
+    check_table(table, &mut wide, sizes)
 }

@@ -58,6 +58,14 @@ module _ {o o′ xs : List ℕ} {at to : ℕ} (w : Wrote o at xs o′ to) where
 pub wrote-cons : {o o′ o″ xs : List ℕ} {at to to′ x : ℕ} → Wrote o at (x ∷ []) o′ to → Wrote o′ to xs o″ to′ → Wrote o at (x ∷ xs) o″ to′
 wrote-cons w v = wrote-then w v
 
+-- where there is room for all, all is written
+module _ {o xs : List ℕ} {at : ℕ} (room : at + length xs ≤ length o) where
+  pub wrote-all : Wrote o at xs (sets o at xs) (at + length xs)
+  wrote-all = record { is = sym (puts-room (output o at) xs room) }
+
+  pub wrote-behind : {o′ : List ℕ} {to : ℕ} → Wrote o at xs o′ to → to ≡ at + length xs
+  wrote-behind w = ap (λ (s : Output). s .at) (w .is ∙ puts-room (output o at) xs room)
+
 -- what stands at the front after a writing from the index 0
 module _ {o o′ xs : List ℕ} {to : ℕ} (w : Wrote o 0 xs o′ to) (room : length xs ≤ length o) where
   stored : output o′ to ≡ output (sets o 0 xs) (length xs)

@@ -9,42 +9,44 @@ use lib.ListN.{length, take, drop, length-append}
 use lib.Seq.{take-append-seam, length-take-le}
 use types.Run.{OneOf}
 use denote.Enum.Declared.{tagOf}
-use Rattle.fixpoint.specs.Limits.{Verdict, fixpoint}
 use Rattle.orm.specs.Diagram.{table}
 use Rattle.orm.specs.Form.{typeOf}
-use Rattle.orm.specs.Text.{bytes, separator, decimal, valuesText, lineText}
-use Rattle.orm.specs.Sets.{verdict}
+use Rattle.orm.specs.Text.{bytes, separator, decimal, valuesText, lineText, tableLine}
 use Rattle.orm.specs.Populate.{population}
-use Rattle.orm.specs.Outcome.{Outcome, refused, accepted, lengthOf, bufferAfter, written, Handed, handedBack}
-use Rattle.orm.specs.Calls.{readCall, checkCall, populateCall}
-use Rattle.orm.specs.Program.{report, program}
+use Rattle.orm.specs.Outcome.{Outcome, refused, accepted, _>>=_, fitted, lengthOf, bufferAfter, Sized, written, handedBack}
+use Rattle.orm.specs.Calls.{diagramIn, sizesBy, settledInto, readCall}
+use Rattle.orm.specs.Program.{report, output, program}
 use Rattle.orm.specs.Laws.Shape.{population-shaped}
-use Rattle.guarantee.specs.Guarantee.{Populated}
-use Rattle.guarantee.specs.Proof.{guarantee}
+use Rattle.reading.specs.Laws.{fits, does-not-fit}
+use Rattle.reading.specs.WideTable.{mostNumbers}
+use Rattle.reading.specs.TableLength.{table-short}
 use Rattle.grammar.specs.Fault.{numberOf}
 use Rattle.grammar.specs.declared.Fault.{Fault}
 use Rattle.reader.specs.Answer.{conversionOf}
 use Rattle.reader.specs.declared.Conversion.{Conversion}
 use Rattle.reader.specs.declared.Conversion.the-variants as reads
-use Rattle.bounds.specs.Answer.{settlementOf, Answered}
-use Rattle.bounds.specs.Laws.{sizes-few}
+use Rattle.widening.specs.Answer.{acceptanceOf, described, widened}
+use Rattle.widening.specs.Laws.Accepts.{accepted-refused, accepted-as}
+use Rattle.widening.specs.declared.Acceptance.{Acceptance}
+use Rattle.widening.specs.declared.Acceptance.the-variants as acceptances
+use Rattle.limits.specs.Prepared.{ValidTotals}
+use Rattle.bounds.specs.Answer.{Answered, checked, Settled}
+use Rattle.bounds.specs.Laws.Ends.{told-short, told-accepted, Ends, emptied, settled, ends}
 use Rattle.bounds.specs.declared.Settlement.{Settlement}
 use Rattle.bounds.specs.declared.Settlement.the-variants.{Refused, Unsatisfiable, TooShort, Accepted}
 use Rattle.bounds.proofs.Settlement.{the-type}
 use Rattle.buffer.specs.Written.{Wrote}
 use Rattle.buffer.specs.Laws.{wrote-then, wrote-as, wrote-none}
 use Rattle.table.specs.Positions.{typeCount, diagramOf, Walkable}
-use Rattle.table.specs.Valid.{Valid}
-use Rattle.table.specs.Laws.Valid.{accepted-valid, valid-walkable}
+use Rattle.table.specs.Laws.Valid.{valid-walkable}
 use Rattle.table.specs.Laws.Walks.{each-length}
-use Rattle.populate.specs.Answer.{cellsOf, Settled}
-use Rattle.populate.specs.Demand3.{TableOf, Emptied, Making, Lacks, Written, Means, settledSizes, ReadMeans, TableRead}
-use Rattle.populate.specs.Tied.{table-accepted, demand-3}
+use Rattle.populate.specs.Answer.{cellsOf, populated}
+use Rattle.populate.specs.Demand3.{ReadMeans, TableRead}
+use Rattle.populate.specs.Tied.{demand-3}
 use Rattle.report.specs.Printed.{printed}
 use Rattle.report.specs.Laws.Printed.{printed-report}
-use Rattle.command.specs.Reports.{refusalLine, settlementLine, textReport, tableReport}
-use Rattle.table.specs.Laws.TableOf.{table-short}
-use Rattle.command.specs.Laws.Reports.{emptied-report, settled-report, large-report, table-report, text-report, faulty-report}
+use Rattle.command.specs.Reports.{refusalLine, settlementLine, reportOf, textReport, tableReport}
+use Rattle.command.specs.Laws.Reports.{emptied-report, settled-report, large-report, text-report, faulty-report}
 use Rattle.command.specs.Laws.Reports.{program-cut, program-whole}
 
 -- ---- the refusal
@@ -90,155 +92,115 @@ pub refused-none : (o : List ℕ) {length rounds : ℕ} {r : Settlement} → r �
 unfolding settlementLine
 refused-none o e = rw (e, settlementLine) (wrote-none o 0)
 
--- ---- a call that settles
+-- ---- any table
 
--- none of its answers but acceptance has the position 3
-module _ {make : Making} {t s s′ : List ℕ} {A : Type 0} where
-  by-refusal : (r : Settlement) → OneOf (0 ∷ 1 ∷ 2 ∷ []) (tagOf the-type r) → Means t make r s s′
-      → ((f : Fault) (line : ℕ) → r ≡ Refused f line → (TableOf t → ⊥) → A)
-      → ((set round : ℕ) → r ≡ Unsatisfiable set round → Emptied t set round s s′ → A)
-      → ((needed : ℕ) → r ≡ TooShort needed → Lacks t make needed s s′ → A) → A
-  by-refusal (Refused f line) k m one two three = one f line refl (m .0)
-  by-refusal (Unsatisfiable set round) k m one two three = two set round refl m
-  by-refusal (TooShort needed) k m one two three = three needed refl m
-  by-refusal (Accepted n rounds) k m one two three =
-      ⊎-elim (λ z. absurd (omega arith)) (⊎-elim (λ z. absurd (omega arith)) (λ z. absurd (omega arith))) k
+module _ (t : List ℕ) {r : Acceptance} {f : Fault} {line : ℕ} (p : r ≡ acceptances.Refused f line)
+    (e : acceptanceOf r ≡ described (diagramIn tableLine t)) where
+  pub table-refused : {o o′ : List ℕ} {n to : ℕ} → n ≡ numberOf f → Wrote o 0 (refusalLine n line 0) o′ to → Wrote o 0 (tableReport t) o′ to
+  unfolding tableReport output refusalLine
+  table-refused en w = wrote-as w (rw (en, accepted-refused t p e, tableReport) refl)
 
-fixpoint-same : {v : Verdict} {n m : ℕ} {c k : List ℕ} → v ≡ fixpoint n c → v ≡ fixpoint m k → (m ≡ n) × (k ≡ c)
-fixpoint-same e q = (cc, cc)
-
--- the diagram of a table
-module _ {t : List ℕ} (x : TableOf t) where
-  valid : Valid t
-  valid = accepted-valid t (x .diagram) (table-accepted x)
-
-  same-diagram : diagramOf t ≡ x .diagram
-  same-diagram = cc (valid .reads, table-accepted x)
-
-  emptied-line : {set round : ℕ} {s s′ : List ℕ} → Emptied t set round s s′ → refusalLine 7 set round ≡ tableReport t
-  emptied-line {round = round} y =
-      ap (λ (k : ℕ). refusalLine 7 k round) (y .at .numbered) ∙ sym (emptied-report (y .of .diagram) (y .at .defined)) ∙ sym (table-report (y .of))
+module _ (t w : List ℕ) {w′ : List ℕ} {r : Acceptance} {n types preds roles groups : ℕ} (p : r ≡ acceptances.Widened n types preds roles groups)
+    (e : acceptanceOf r ≡ described (diagramIn tableLine t)) (ew : w′ ≡ bufferAfter (widened t) w) where
+  pub table-printed : {o o′ : List ℕ} {to : ℕ} → Wrote o 0 (reportOf (diagramOf (take n w′))) o′ to → Wrote o 0 (tableReport t) o′ to
+  unfolding tableReport
+  table-printed v = wrote-as v (rw (accepted-as t w p e ew .reads, tableReport) refl)
 
 -- ---- after the check
 
-module _ (t s s′ : List ℕ) (of : TableOf t) (a : Settlement) (long : length s ≡ 208)
-    (e : settlementOf a ≡ handedBack (checkCall t (length s))) (w : s′ ≡ bufferAfter (written (checkCall t (length s))) s) where
-  means : Means t settledSizes a s s′
-  means = demand-3 .of-table t .check s s′ a (record { handed = e; buffer = w })
+-- no answer but acceptance has the position 3
+accepted-not : {n rounds : ℕ} {r : Settlement} → r ≡ Accepted n rounds → OneOf (0 ∷ 1 ∷ 2 ∷ []) (tagOf the-type r) → ⊥
+accepted-not q k = ⊎-elim (λ z. absurd (omega arith)) (⊎-elim (λ z. absurd (omega arith)) (λ z. absurd (omega arith))) (rw q at k)
 
+module _ (t s s′ : List ℕ) {roles groups : ℕ} (a : Settlement) (known : ValidTotals t roles groups) (long : length s ≡ 208)
+    (h : Answered (checked t (length s)) a s s′) where
   pub check-refused : {o o′ : List ℕ} {r : ℕ} → OneOf (0 ∷ 1 ∷ 2 ∷ []) (tagOf the-type a) → Wrote o 0 (settlementLine a) o′ r
-      → Wrote o 0 (tableReport t) o′ r
-  check-refused {o} {o′} {r} k v = wrote-as v (by-refusal a k means
-      (λ f line q none. absurd (none of))
-      (λ set round q y. sym (line-emptied q refl) ∙ emptied-line of y)
-      (λ needed q y. absurd (omega (
-        arith,
-        y .short,
-        y .length-needed,
-        long,
-        sizes-few (y .of .diagram) (y .of .wellFormed) (y .populated .settled-after .defined),
-      ))))
-
-  module _ {n rounds : ℕ} (q : a ≡ Accepted n rounds) where
-    y : Written t settledSizes n rounds s s′
-    y = subst (λ (x : Settlement). Means t settledSizes x s s′) q means
-
-    front : take n s′ ≡ y .populated .settled
-    front = ap₂ take (y .length-written) (y .front) ∙ take-append-seam (y .populated .settled) (drop n s)
-
-    pub check-settled : Settled t (take n s′) rounds
-    check-settled = record {
-      valid = valid (y .of);
-      ended = ap verdict (same-diagram (y .of)) ∙ y .populated .settled-after .defined ∙ ap₂ fixpoint (sym (y .rounds-made)) (sym front);
-    }
-
-    pub sizes-within : n ≤ length s′
-    sizes-within = omega (arith, y .length-written, ap length (y .front), length-append (y .populated .settled) (drop n s))
-
-    pub sizes-count : n ≡ length (take n s′)
-    sizes-count = sym (length-take-le n s′ sizes-within)
+      → Wrote o 0 (reportOf (diagramOf t)) o′ r
+  check-refused {o} {o′} {r} k v = wrote-as v (go (ends t s s′ (known .valid) long a h))
+    where
+      go : Ends t s s′ a → settlementLine a ≡ reportOf (diagramOf t)
+      go (emptied set n e q) = sym (line-emptied q refl) ∙ sym (emptied-report (diagramOf t) e)
+      go (settled n c x w q) = absurd (accepted-not q k)
 
 -- ---- after populating
 
-module _ (t c s s′ : List ℕ) (rounds : ℕ) (settled : Settled t c rounds) (a : Settlement) (long : length s ≡ 16000)
-    (h : Answered (populateCall t (length s)) a s s′) where
-  filled : Means t cellsOf a s s′
-  filled = demand-3 .of-table t .populate s s′ a h
-
-  abbrev of : TableOf t
-  of = record {
-    diagram = diagramOf t;
-    same-table = guarantee .accepted-tables t (diagramOf t) .0 (settled .valid .reads) .0;
-    wellFormed = settled .valid .formed;
-  }
-
-  -- the settled sizes are those at hand
-  same-cells : (x : TableOf t) (p : Populated t (x .diagram)) → cellsOf (x .diagram) (p .settled) ≡ cellsOf (diagramOf t) c
-  same-cells x p =
-      let same : diagramOf t ≡ x .diagram = same-diagram x in
-      let sizes : p .settled ≡ c = fixpoint-same (rw same at (settled .ended)) (p .settled-after .defined) .1 in
-      rw (sizes, same)
-
+module _ {t c : List ℕ} {rounds : ℕ} (x : Settled t c rounds) where
   pub table-walkable : Walkable t
-  table-walkable = valid-walkable (settled .valid)
+  table-walkable = valid-walkable (x .valid)
+
+module _ (t c s s′ : List ℕ) (rounds : ℕ) (x : Settled t c rounds) (a : Settlement) (long : length s ≡ 16000)
+    (h : Answered (populated t (length s)) a s s′) where
+  abbrev made : List ℕ
+  made = cellsOf (diagramOf t) c
+
+  abbrev then : Outcome (List ℕ) → Outcome Sized
+  then o = o >>= λ w. accepted (record { rounds = rounds; result = w })
+
+  ends-so : populated t (length s) ≡ then (fitted (length s) made)
+  unfolding settledInto sizesBy
+  ends-so = rw (x .ended, settledInto)
+
+  -- the cells do not fit; or they do, and stand at the front of the buffer
+  data Filled : Type 0 where
+    short : 16000 < length made → a ≡ TooShort (length made) → Filled
+    whole : length made ≤ 16000 → s′ ≡ made ++ drop (length made) s → a ≡ Accepted (length made) rounds → Filled
+
+  filled : Filled
+  unfolding written bufferAfter
+  filled = go (decLe (length made) (length s))
+    where
+      go : Dec (length made ≤ length s) → Filled
+      go (yes l) =
+          let e : populated t (length s) ≡ accepted (record { rounds = rounds; result = made }) = ends-so ∙ ap then (fits (length s) made l) in
+          whole (omega arith) (h .buffer ∙ ap (λ (o : Outcome Sized). bufferAfter (written o) s) e) (told-accepted a (h .handed ∙ ap handedBack e))
+      go (no l) =
+          let e : populated t (length s) ≡ refused 8 (length made) 0 = ends-so ∙ ap then (does-not-fit (length s) made (omega arith)) in
+          short (omega arith) (told-short a (h .handed ∙ ap handedBack e))
 
   pub fill-refused : {o o′ : List ℕ} {r : ℕ} → OneOf (0 ∷ 1 ∷ 2 ∷ []) (tagOf the-type a) → Wrote o 0 (settlementLine a) o′ r
-      → Wrote o 0 (tableReport t) o′ r
-  fill-refused {o} {o′} {r} k v = wrote-as v (by-refusal a k filled
-      (λ f line q none. absurd (none of))
-      (λ set round q y. sym (line-emptied q refl) ∙ emptied-line of y)
-      (λ needed q y.
-      let made : needed ≡ length (cellsOf (diagramOf t) c) = y .length-needed ∙ ap length (same-cells (y .of) (y .populated)) in
-      sym (line-short q)
-      ∙ ap (λ (m : ℕ). refusalLine 8 m 0) made
-      ∙ sym (large-report (diagramOf t) (settled .ended) (omega (arith, made, y .short, long)))
-      ∙ sym (table-report of)))
+      → Wrote o 0 (reportOf (diagramOf t)) o′ r
+  fill-refused {o} {o′} {r} k v = wrote-as v (go filled)
+    where
+      go : Filled → settlementLine a ≡ reportOf (diagramOf t)
+      go (short l q) = sym (line-short q) ∙ sym (large-report (diagramOf t) (x .ended) l)
+      go (whole l w q) = absurd (accepted-not q k)
 
   module _ {n k : ℕ} (q : a ≡ Accepted n k) where
-    u : Written t cellsOf n k s s′
-    u = subst (λ (x : Settlement). Means t cellsOf x s s′) q filled
+    record Front : Type 0 where
+      count : n ≡ length made
+      room : length made ≤ 16000
+      buffer : s′ ≡ made ++ drop (length made) s
 
-    abbrev result : List ℕ
-    result = cellsOf (u .of .diagram) (u .populated .settled)
+    front : Front
+    front = go filled
+      where
+        go : Filled → Front
+        go (short l e) = let z : _≡_ {A = ℕ} 0 1 = cc in absurd (omega arith)
+        go (whole l w e) = let en : n ≡ length made = cc in record { count = en; room = l; buffer = w }
 
-    made : result ≡ cellsOf (diagramOf t) c
-    made = same-cells (u .of) (u .populated)
-
-    cells-front : take n s′ ≡ cellsOf (diagramOf t) c
-    cells-front = ap₂ take (u .length-written) (u .front) ∙ take-append-seam result (drop n s) ∙ made
+    cells-front : take n s′ ≡ made
+    cells-front = ap₂ take (front .count) (front .buffer) ∙ take-append-seam made (drop (length made) s)
 
     pub cells-within : n ≤ length s′
-    cells-within = omega (arith, u .length-written, ap length (u .front), length-append result (drop n s))
+    cells-within = omega (arith, front .count, ap length (front .buffer), length-append made (drop (length made) s))
 
     pub cells-count : n ≡ length (take n s′)
     cells-count = sym (length-take-le n s′ cells-within)
 
-    room : length (cellsOf (diagramOf t) c) ≤ 16000
-    room = go (decLe (length result) (length s))
-      where
-        go : Dec (length result ≤ length s) → length (cellsOf (diagramOf t) c) ≤ 16000
-        go (yes l) = rw (← made, ← long) l
-        go (no l) =
-            let short = u .populated .populate-writes .too-short (length s) (omega arith) in
-            let told : _≡_ {A = Outcome Handed} (accepted (record { rounds = k; resultLength = n })) (handedBack (refused 8 _ 0)) =
-            sym (ap settlementOf q) ∙ h .handed ∙ ap handedBack short in
-            let z : _≡_ {A = ℕ} 0 1 = cc in
-            absurd (omega arith)
-
     pub fill-printed : {o o′ : List ℕ} {r : ℕ} → Wrote o 0 (printed (diagramOf t) (typeCount t) rounds c (take n s′)) o′ r
-        → Wrote o 0 (tableReport t) o′ r
+        → Wrote o 0 (reportOf (diagramOf t)) o′ r
     unfolding diagramOf
     fill-printed v =
         let types : typeCount t ≡ length (diagramOf t .types) = sym (each-length typeOf 6 (typeCount t) (drop 2 t)) in
-        let whole : printed (diagramOf t) (typeCount t) rounds c (take n s′) ≡ report rounds c (population (diagramOf t) c) =
+        let same : printed (diagramOf t) (typeCount t) rounds c (take n s′) ≡ report rounds c (population (diagramOf t) c) =
         ap (λ (m : ℕ). printed (diagramOf t) m rounds c (take n s′)) types
         ∙ ap (printed (diagramOf t) (length (diagramOf t .types)) rounds c) cells-front
         ∙ printed-report (diagramOf t) rounds c (population (diagramOf t) c) (population-shaped (diagramOf t) c) in
-        wrote-as v (whole ∙ sym (settled-report (diagramOf t) (settled .ended) room) ∙ sym (table-report of))
+        wrote-as v (same ∙ sym (settled-report (diagramOf t) (x .ended) (front .room)))
 
 -- ---- after reading
 
-module _ (text s s′ : List ℕ) (a : Conversion) (long : length s ≡ 708) (e : conversionOf a ≡ lengthOf (readCall text (length s)))
+module _ (text s s′ : List ℕ) (a : Conversion) (long : length s ≡ mostNumbers) (e : conversionOf a ≡ lengthOf (readCall text (length s)))
     (w : s′ ≡ bufferAfter (readCall text (length s)) s) where
   told : ReadMeans text a s s′
   told = demand-3 .of-text text s s′ a (record { handed = e; buffer = w })
@@ -262,9 +224,6 @@ module _ (text s s′ : List ℕ) (a : Conversion) (long : length s ≡ 708) (e 
 
     table-front : take n s′ ≡ table (z .of .diagram)
     table-front = ap₂ take (z .length-read) (z .front) ∙ take-append-seam (table (z .of .diagram)) (drop n s)
-
-    pub table-read : TableOf (take n s′)
-    table-read = record { diagram = z .of .diagram; wellFormed = z .of .wellFormed; same-table = table-front }
 
     pub table-within : n ≤ length s′
     table-within = omega (arith, z .length-read, ap length (z .front), length-append (table (z .of .diagram)) (drop n s))

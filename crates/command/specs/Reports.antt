@@ -29,6 +29,9 @@ reportOn d = do
   w ← fitted 16000 (cells (population d (s .result)))
   accepted (report (s .rounds) (s .result) (population d (s .result)))
 
+abbrev pub reportOf : Diagram → List ℕ
+reportOf d = output (reportOn d)
+
 unfoldable pub textReport : List ℕ → List ℕ
 textReport text = output (diagramIn textLine text >>= reportOn)
 

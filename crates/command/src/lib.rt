@@ -4,9 +4,11 @@ ghost use mathlib.Core.Path.{_≡_};
 ghost use lib.ListN.{length};
 ghost use Rattle.orm.specs.Program.{program};
 ghost use Rattle.buffer.specs.Written.{Wrote};
-ghost use Rattle.populate.specs.Answer.{Settled};
-ghost use Rattle.populate.specs.Demand3.{TableOf};
-ghost use Rattle.command.specs.Reports.{refusalLine, settlementLine, textReport, tableReport};
+ghost use Rattle.reading.specs.WideTable.{mostNumbers};
+ghost use Rattle.table.specs.Positions.{diagramOf};
+ghost use Rattle.limits.specs.Prepared.{ValidTotals};
+ghost use Rattle.bounds.specs.Answer.{Settled};
+ghost use Rattle.command.specs.Reports.{refusalLine, settlementLine, reportOf, textReport, tableReport};
 
 // `refused=NUMBER,PLACE,ROUND`
 pub fn push_refusal(out: &mut [u8], number: usize, place: usize, round: usize) -> usize
@@ -40,37 +42,38 @@ fn push_refused(out: &mut [u8], answer: bounds::Settlement) -> usize
     }
 }
 
-// What is printed where the sizes have settled; `cells` is scratch.
-fn print_cells(
-    table: &[u32],
-    sizes: &[u32],
-    rounds: u32,
-    cells: &mut [u32],
-    out: &mut [u8],
-) -> usize
-    requires { ⌜ Settled (now table) (now sizes) rounds ⌝ }
+// What is printed of a valid table whose sizes have settled; `cells` is scratch.
+fn print_cells(t: &[u32], sizes: &[u32], rounds: u32, cells: &mut [u32], out: &mut [u8]) -> usize
+    requires { ⌜ Settled (now t) (now sizes) rounds ⌝ }
     requires { ⌜ length (now cells) ≡ 16000 ⌝ }
-    ensures { λ r. ⌜ Wrote (now (out .entry)) 0 (tableReport (now (table .entry))) (now (out .exit)) r ⌝ }
+    ensures { λ r. ⌜ Wrote (now (out .entry)) 0 (reportOf (diagramOf (now (t .entry)))) (now (out .exit)) r ⌝ }
 {
-    let answer = populate::populate_settled(table, sizes, rounds, cells);
+    let answer = populate::populate_settled(t, sizes, rounds, cells);
     let bounds::Settlement::Accepted { length, rounds: _ } = answer else {
         return push_refused(out, answer);
     };
-    report::push_report(out, table, rounds, sizes, &cells[..length])
+    report::push_report(out, t, rounds, sizes, &cells[..length])
 }
 
-// What is printed of a table that was read; `sizes` and `cells` are scratch.
-fn print_sizes(table: &[u32], sizes: &mut [u32], cells: &mut [u32], out: &mut [u8]) -> usize
-    requires { ⌜ TableOf (now table) ⌝ }
+// What is printed of a valid table, whose diagram has so many roles and groups; `sizes` and `cells` are scratch.
+fn print_sizes(
+    t: &[u32],
+    roles: usize,
+    groups: usize,
+    sizes: &mut [u32],
+    cells: &mut [u32],
+    out: &mut [u8],
+) -> usize
+    requires { ⌜ ValidTotals (now t) roles groups ⌝ }
     requires { ⌜ length (now sizes) ≡ 208 ⌝ }
     requires { ⌜ length (now cells) ≡ 16000 ⌝ }
-    ensures { λ r. ⌜ Wrote (now (out .entry)) 0 (tableReport (now (table .entry))) (now (out .exit)) r ⌝ }
+    ensures { λ r. ⌜ Wrote (now (out .entry)) 0 (reportOf (diagramOf (now (t .entry)))) (now (out .exit)) r ⌝ }
 {
-    let answer = bounds::check(table, sizes);
+    let answer = bounds::check_valid(t, roles, groups, sizes);
     let bounds::Settlement::Accepted { length, rounds } = answer else {
         return push_refused(out, answer);
     };
-    print_cells(table, &sizes[..length], rounds, cells, out)
+    print_cells(t, &sizes[..length], rounds, cells, out)
 }
 
 fn set_space() -> [u32; 208] {
@@ -81,18 +84,42 @@ fn cell_space() -> [u32; 16000] {
     [0u32; 16000]
 }
 
-fn print_table(table: &[u32], out: &mut [u8]) -> usize
-    requires { ⌜ TableOf (now table) ⌝ }
-    ensures { λ r. ⌜ Wrote (now (out .entry)) 0 (tableReport (now (table .entry))) (now (out .exit)) r ⌝ }
+fn print_valid(t: &[u32], roles: usize, groups: usize, out: &mut [u8]) -> usize
+    requires { ⌜ ValidTotals (now t) roles groups ⌝ }
+    ensures { λ r. ⌜ Wrote (now (out .entry)) 0 (reportOf (diagramOf (now (t .entry)))) (now (out .exit)) r ⌝ }
 {
     let mut sizes = set_space();
     let mut cells = cell_space();
-    print_sizes(table, &mut sizes, &mut cells, out)
+    print_sizes(t, roles, groups, &mut sizes, &mut cells, out)
 }
 
-// What is printed of a text; `table` is scratch.
-fn print_text(text: &[u8], table: &mut [u32], out: &mut [u8]) -> usize
-    requires { ⌜ length (now table) ≡ 708 ⌝ }
+// What is printed of any table; `wide` is scratch.
+fn print_table(table: &[u32], wide: &mut [u32], out: &mut [u8]) -> usize
+    requires { ⌜ length (now wide) ≡ mostNumbers ⌝ }
+    ensures { λ r. ⌜ Wrote (now (out .entry)) 0 (tableReport (now (table .entry))) (now (out .exit)) r ⌝ }
+{
+    let acceptance = widening::accept(table, wide);
+    match acceptance {
+        widening::Acceptance::Refused { fault, line } => push_refusal(
+            out,
+            grammar::number_of(fault),
+            line,
+            0,
+        ),
+        widening::Acceptance::Widened {
+            length,
+            types: _,
+            preds: _,
+            roles,
+            groups,
+        } => print_valid(&wide[..length], roles, groups, out),
+    }
+}
+
+// What is printed of a text; `table` and `wide` are scratch.
+fn print_text(text: &[u8], table: &mut [u32], wide: &mut [u32], out: &mut [u8]) -> usize
+    requires { ⌜ length (now table) ≡ mostNumbers ⌝ }
+    requires { ⌜ length (now wide) ≡ mostNumbers ⌝ }
     ensures { λ r. ⌜ Wrote (now (out .entry)) 0 (textReport (now (text .entry))) (now (out .exit)) r ⌝ }
 {
     let answer = reader::read(text, table);
@@ -104,19 +131,16 @@ fn print_text(text: &[u8], table: &mut [u32], out: &mut [u8]) -> usize
             0,
         ),
         reader::Conversion::TooShort { needed } => push_refusal(out, 8, needed, 0),
-        reader::Conversion::Accepted { length } => print_table(&table[..length], out),
+        reader::Conversion::Accepted { length } => print_table(&table[..length], wide, out),
     }
-}
-
-fn table_space() -> [u32; 708] {
-    [0u32; 708]
 }
 
 fn print_input(text: &[u8], out: &mut [u8]) -> usize
     ensures { λ r. ⌜ Wrote (now (out .entry)) 0 (textReport (now (text .entry))) (now (out .exit)) r ⌝ }
 {
-    let mut table = table_space();
-    print_text(text, &mut table, out)
+    let mut table = widening::scratch();
+    let mut wide = widening::scratch();
+    print_text(text, &mut table, &mut wide, out)
 }
 
 // Standard output of standard input, of which 4,096 bytes count, as far as the buffer has room:

@@ -1,5 +1,5 @@
 -- K9 of the predicate at `pred` in the table: the columns of a group, and all groups.
-use Prim.Native.Nat.{ℕ, suc, _+_, _*_, _-_, _≤_, _<_}
+use Prim.Native.Nat.{ℕ, suc, _+_, _-_, _≤_, _<_}
 use native.Mathlib.Numerals.{add-one}
 use native.Mathlib.Omega.{arith}
 use mathlib.Core.Path.{_≡_, refl, sym, ap, subst⁻¹, _∙_}
@@ -7,24 +7,24 @@ use mathlib.Core.Bool.{Bool, true, false, not, _&&_}
 use mathlib.Core.List.{List, [], _∷_, _++_, map, append-assoc, append-nil}
 use lib.Dec.{eqb}
 use lib.ListN.{length, getD, take, drop, set}
-use lib.Seq.{drop-drop, take-suc-set, length-take-le}
+use lib.Seq.{take-suc-set, length-take-le}
 use borrow.Author.Tests.{eq-eqb, ne-eqb, not-true, not-false}
 use Rattle.counting.specs.Lists.{mapFrom, same, combination}
 use Rattle.counting.specs.Terms.{Each}
 use Rattle.counting.specs.Distinct.{all, occurrences}
 use Rattle.counting.specs.Laws.Members.{each-nil, each-cons}
 use Rattle.orm.specs.Diagram.{Role, Frequency, Predicate}
-use Rattle.orm.specs.Form.{roleOf, groupOf, _to_, inRange}
+use Rattle.orm.specs.Form.{groupOf, _to_, inRange}
 use Rattle.orm.specs.Sets.{select, rolesInGroup}
 use Rattle.orm.specs.Population.{Population}
 use Rattle.orm.specs.Constraints.{Grouped, grouped, K9}
-use Rattle.table.specs.Positions.{predOf, rolesIn, groupsIn}
-use Rattle.table.specs.Laws.Walks.{each-more, each-none, each-length}
+use Rattle.table.specs.Positions.{predOf, roleWidth, rolesStart, groupsStart, rolesIn, groupsIn}
+use Rattle.table.specs.Laws.Walks.{each-more, each-none, role-more, role-none, roles-here, groups-here}
 use Rattle.columns.specs.declared.Rows.{Rows}
 use Rattle.columns.specs.Values.{keysOf, keysIn, occurring}
 use Rattle.columns.specs.Reach.{Keyed, rows-keyed}
 use Rattle.blocks.specs.Blocks.{predWidth, rowsAt}
-use Rattle.blocks.specs.Places.{RowsHere, roles-at}
+use Rattle.blocks.specs.Places.{RowsHere}
 use Rattle.blocks.specs.Standing.{PredHere}
 use Rattle.constraints.specs.Tests.{predTest, groupTest, groupsTest, pushed}
 use Rattle.constraints.proofs.Preds.{rows-held, rows-few, rows-wide}
@@ -44,24 +44,24 @@ module _ (t : List ℕ) (g : ℕ) (all-columns : List ℕ) (role j left n : ℕ)
 
   pub columns-none : ColumnsLeft → left ≤ 0 → take n out ≡ all-columns
   unfolding rolesInGroup select
-  columns-none i h = sym (append-nil (take n out)) ∙ (rw (each-none roleOf 3 left (drop role t) h) at i)
+  columns-none i h = sym (append-nil (take n out)) ∙ (rw (role-none left (drop role t) h) at i)
 
   pub columns-more : (m : ℕ) (out′ : List ℕ) → ColumnsLeft → 0 < left → take m out′ ≡ pushed (eqb (getD (drop role t) 2 0) g) (take n out) j
-      → take m out′ ++ rolesInGroup g (j + 1) (rolesIn (left - 1) (drop (role + 3) t)) ≡ all-columns
+      → take m out′ ++ rolesInGroup g (j + 1) (rolesIn (left - 1) (drop (role + roleWidth) t)) ≡ all-columns
   unfolding rolesInGroup select
-  columns-more m out′ i h e = rw (e, add-one) (go (eqb (getD (drop role t) 2 0) g) refl (rw (each-more roleOf 3 t role left h) at i))
+  columns-more m out′ i h e = rw (e, add-one) (go (eqb (getD (drop role t) 2 0) g) refl (rw (role-more t role left h) at i))
     where
       rest : List ℕ
-      rest = select (λ (r : Role). eqb (r .group) g) (suc j) (rolesIn (left - 1) (drop (role + 3) t))
+      rest = select (λ (r : Role). eqb (r .group) g) (suc j) (rolesIn (left - 1) (drop (role + roleWidth) t))
 
       go : (b : Bool) → eqb (getD (drop role t) 2 0) g ≡ b → take n out ++ elim b [ true ↦ j ∷ rest | false ↦ rest ] ≡ all-columns
           → pushed b (take n out) j ++ rest ≡ all-columns
       go true q z = append-assoc (take n out) (j ∷ []) rest ∙ z
       go false q z = z
 
-pub columns-start : (t : List ℕ) (g pred : ℕ) (out : List ℕ) {w : ℕ} → w ≡ predWidth (predOf (drop pred t))
-    → take 0 out ++ rolesInGroup g 0 (rolesIn w (drop (pred + 4) t)) ≡ rolesInGroup g 0 (predOf (drop pred t) .roles)
-columns-start t g pred out e = ap (rolesInGroup g 0) (roles-at t pred e)
+pub columns-start : (t : List ℕ) (g pred : ℕ) (out : List ℕ) {w role : ℕ} → w ≡ getD (drop pred t) 2 0 → role ≡ pred + rolesStart
+    → take 0 out ++ rolesInGroup g 0 (rolesIn w (drop role t)) ≡ rolesInGroup g 0 (predOf (drop pred t) .roles)
+columns-start t g pred out e f = ap (rolesInGroup g 0) (roles-here t pred e f)
 
 -- ---- one group
 
@@ -115,12 +115,10 @@ module _ (t : List ℕ) (rs : List Role) (rows : List (List ℕ)) (all-groups : 
     unfolding groupsTest
     groups-more n = rw add-one (rw (each-more groupOf 2 t line left h, groupsTest, ← e, not-false b n) at i)
 
-pub groups-start : (t : List ℕ) (pred left : ℕ) (rs : List Role) (rows : List (List ℕ)) {w : ℕ} → w ≡ predWidth (predOf (drop pred t))
-    → left ≡ getD (drop pred t) 3 0
-    → groupsTest 1 (groupsIn left (drop (pred + (4 + 3 * w)) t)) rs rows ≡ groupsTest 1 (predOf (drop pred t) .groups) rs rows
-groups-start t pred left rs rows {w} e f =
-    let k : w ≡ getD (drop pred t) 2 0 = e ∙ each-length roleOf 3 (getD (drop pred t) 2 0) (drop 4 (drop pred t)) in
-    rw (f, k, ← drop-drop (4 + 3 * getD (drop pred t) 2 0) pred t)
+pub groups-start : (t : List ℕ) (pred : ℕ) (rs : List Role) (rows : List (List ℕ)) {left line : ℕ} → left ≡ getD (drop pred t) 3 0
+    → line ≡ pred + groupsStart (drop pred t)
+    → groupsTest 1 (groupsIn left (drop line t)) rs rows ≡ groupsTest 1 (predOf (drop pred t) .groups) rs rows
+groups-start t pred rs rows e f = ap (λ (fs : List Frequency). groupsTest 1 fs rs rows) (groups-here t pred e f)
 
 -- ---- constraint k
 

@@ -13,14 +13,14 @@ use Rattle.orm.specs.Diagram.{Role, Predicate, isMandatory}
 use Rattle.orm.specs.Form.{roleOf, _to_, inRange}
 use Rattle.orm.specs.Population.{Population, rowsOf}
 use Rattle.orm.specs.Constraints.{Played, played, membersOf, K5, K6, K7, K8}
-use Rattle.table.specs.Positions.{predOf, rolesIn}
-use Rattle.table.specs.Laws.Walks.{each-more, each-none}
+use Rattle.table.specs.Positions.{predOf, roleWidth, rolesStart, rolesIn}
+use Rattle.table.specs.Laws.Walks.{role-more, role-none, roles-here}
 use Rattle.columns.specs.declared.Column.{Column}
 use Rattle.columns.specs.declared.Rows.{Rows}
 use Rattle.columns.specs.Values.{valuesIn}
 use Rattle.columns.specs.Differ.{Wide, rowsHeld}
 use Rattle.blocks.specs.Blocks.{predWidth, rowsAt}
-use Rattle.blocks.specs.Places.{RowsHere, roles-at}
+use Rattle.blocks.specs.Places.{RowsHere}
 use Rattle.blocks.specs.Standing.{PredHere}
 use Rattle.constraints.specs.Tests.{predTest, filled, roleTest, rolesTest}
 use Rattle.playing.specs.Playing.{populationOf}
@@ -93,7 +93,7 @@ module _ (k : ℕ) (t s : List ℕ) (o : Population) (v at : ℕ) (all-roles : B
 
   pub roles-none : RolesLeft → left ≤ 0 → true ≡ all-roles
   unfolding rolesTest
-  roles-none i h = rw (each-none roleOf 3 left (drop role t) h) at i
+  roles-none i h = rw (role-none left (drop role t) h) at i
 
   module _ {b : Bool} {w : ℕ} (c : Column) (i : RolesLeft) (h : 0 < left) (f : w ≡ v) (q : valuesIn s c ≡ column j (rowsAt w (drop at s)))
       (e : b ≡ roleTest k o (roleOf (drop role t)) (valuesIn s c)) where
@@ -102,15 +102,15 @@ module _ (k : ℕ) (t s : List ℕ) (o : Population) (v at : ℕ) (all-roles : B
 
     pub roles-not : not b ≡ true → false ≡ all-roles
     unfolding rolesTest
-    roles-not n = rw (each-more roleOf 3 t role left h, rolesTest, tested, not-true b n) at i
+    roles-not n = rw (role-more t role left h, rolesTest, tested, not-true b n) at i
 
-    pub roles-more : not b ≡ false → rolesTest k o (j + 1) (rolesIn (left - 1) (drop (role + 3) t)) (rowsAt v (drop at s)) ≡ all-roles
+    pub roles-more : not b ≡ false → rolesTest k o (j + 1) (rolesIn (left - 1) (drop (role + roleWidth) t)) (rowsAt v (drop at s)) ≡ all-roles
     unfolding rolesTest
-    roles-more n = rw add-one (rw (each-more roleOf 3 t role left h, rolesTest, tested, not-false b n) at i)
+    roles-more n = rw add-one (rw (role-more t role left h, rolesTest, tested, not-false b n) at i)
 
-pub roles-begin : (k : ℕ) (t : List ℕ) (o : Population) (rows : List (List ℕ)) (pred : ℕ) {w : ℕ} → w ≡ predWidth (predOf (drop pred t))
-    → rolesTest k o 0 (rolesIn w (drop (pred + 4) t)) rows ≡ rolesTest k o 0 (predOf (drop pred t) .roles) rows
-roles-begin k t o rows pred e = ap (λ (rs : List Role). rolesTest k o 0 rs rows) (roles-at t pred e)
+pub roles-begin : (k : ℕ) (t : List ℕ) (o : Population) (rows : List (List ℕ)) (pred : ℕ) {w role : ℕ} → w ≡ getD (drop pred t) 2 0
+    → role ≡ pred + rolesStart → rolesTest k o 0 (rolesIn w (drop role t)) rows ≡ rolesTest k o 0 (predOf (drop pred t) .roles) rows
+roles-begin k t o rows pred e f = ap (λ (rs : List Role). rolesTest k o 0 rs rows) (roles-here t pred e f)
 
 -- ---- constraint k
 

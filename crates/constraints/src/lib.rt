@@ -3,14 +3,14 @@ use columns::Column;
 use selection::players::must_play;
 use selection::players::plays;
 ghost use mathlib.Core.Path.{_≡_};
-ghost use Prim.Native.Nat.{_+_, _*_, _≤_, _<_};
+ghost use Prim.Native.Nat.{_+_, _≤_, _<_};
 ghost use lib.Dec.{eqb};
 ghost use lib.ListN.{length, take, drop};
 ghost use Rattle.counting.specs.Distinct.{within};
 ghost use Rattle.orm.specs.Form.{typeOf, roleOf, groupOf};
 ghost use Rattle.orm.specs.Sets.{rolesInGroup};
 ghost use Rattle.orm.specs.Constraints.{K1, K2, K3, K4, K5, K6, K10, eachType, eachPred, firstFalse, membersOf, answer};
-ghost use Rattle.table.specs.Positions.{diagramOf, predOf, Walkable};
+ghost use Rattle.table.specs.Positions.{predOf, predLength, diagramOf, Walkable};
 ghost use Rattle.columns.specs.Values.{valuesIn};
 ghost use Rattle.columns.specs.Reach.{Reached};
 ghost use Rattle.blocks.specs.Blocks.{membersAt, predWidth};
@@ -148,14 +148,14 @@ fn roles_keep(k: u32, t: &[u32], cells: &[u32], pred: usize, at: usize) -> bool
     ensures { λ r. ⌜ r ≡ rolesTest k (populationOf (now (t .entry)) (now (cells .entry))) 0 (predAt (now (t .entry)) pred .roles) (rowsHere (now (t .entry)) (now (cells .entry)) pred at) ⌝ }
 {
     let w = blocks::width(t, pred);
-    let mut role = pred + 4;
+    let mut role = table::roles_at(t, pred);
     let mut j: usize = 0;
     let mut left = w;
     while 0 < left {
         if !role_keeps(k, t, cells, role, blocks::column(cells, at, w, j)) {
             return false;
         }
-        role += 3;
+        role += table::ROLE_WIDTH;
         j += 1;
         left -= 1;
     }
@@ -182,18 +182,18 @@ fn group_columns(t: &[u32], pred: usize, g: u32, out: &mut [u32]) -> usize
     requires { ⌜ Walkable (now t) ⌝ }
     requires { ⌜ length (now out) ≡ 6 ⌝ }
     requires { ⌜ predWidth (predOf (drop pred (now t))) ≤ 6 ⌝ }
-    requires { ⌜ pred + (4 + 3 * predWidth (predOf (drop pred (now t)))) ≤ length (now t) ⌝ }
+    requires { ⌜ pred + predLength (drop pred (now t)) ≤ length (now t) ⌝ }
     ensures { λ r. ⌜ take r (now (out .exit)) ≡ rolesInGroup g 0 (predAt (now (t .entry)) pred .roles) ⌝ }
     ensures { λ r. ⌜ r ≤ 6 ⌝ }
     ensures { λ r. ⌜ length (now (out .exit)) ≡ 6 ⌝ }
 {
-    let mut role = pred + 4;
+    let mut role = table::roles_at(t, pred);
     let mut j: u32 = 0;
     let mut left = blocks::width(t, pred);
     let mut n: usize = 0;
     while 0 < left {
         n = push_role(t, role, g, out, n, j);
-        role += 3;
+        role += table::ROLE_WIDTH;
         j += 1;
         left -= 1;
     }
@@ -228,7 +228,7 @@ fn groups_keep(t: &[u32], cells: &[u32], pred: usize, at: usize) -> bool
     requires { ⌜ PredHere (now t) (now cells) pred at ⌝ }
     ensures { λ r. ⌜ r ≡ groupsTest 1 (predAt (now (t .entry)) pred .groups) (predAt (now (t .entry)) pred .roles) (rowsHere (now (t .entry)) (now (cells .entry)) pred at) ⌝ }
 {
-    let mut line = pred + (4 + 3 * blocks::width(t, pred));
+    let mut line = table::groups_at(t, pred);
     let mut g: u32 = 1;
     let mut left = table::field(t, pred, 3);
     while 0 < left {

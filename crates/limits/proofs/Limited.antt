@@ -16,7 +16,7 @@ use Rattle.lowering.specs.Encoding.{encodeExpr, encode}
 use Rattle.lowering.specs.Laws.Decoding.{encode-append}
 use Rattle.buffer.specs.Written.{Wrote}
 use Rattle.buffer.specs.Laws.{wrote-then, wrote-as, wrote-none}
-use Rattle.table.specs.Laws.Walks.{each-length}
+use Rattle.table.specs.Laws.Walks.{group-count}
 use Rattle.table.specs.Cursors.{placedAt}
 use Rattle.table.specs.declared.Cursor.{Cursor}
 use Rattle.limits.specs.Single.{limitOfGroup}
@@ -95,7 +95,7 @@ module _ (t : List ℕ) (x : Cursor) where
       → upFrom (x .groups) g ++ groupRoles (placedAt t x) 0 ≡ map (λ (b : Part). b .own) (parts (placedAt t x))
   unfolding parts placedAt
   part-sets {g} eg =
-      let long : length (placedAt t x .predicate .groups) ≡ g = each-length groupOf 2 _ _ ∙ sym eg in
+      let long : length (placedAt t x .predicate .groups) ≡ g = group-count (drop (x .at) t) ∙ sym eg in
       let zero-first : x .groups + 0 ≡ x .groups = omega arith in
       sym (map-append (λ (b : Part). b .own) (map (groupPart (placedAt t x)) (upFrom 1 (length (placedAt t x .predicate .groups))))
       (map rolePart (groupRoles (placedAt t x) 0))

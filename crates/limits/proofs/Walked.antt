@@ -1,5 +1,5 @@
 -- The limits of all roles, groups, predicates and types, written in the order of `limits`: what a turn of each loop writes and what it leaves.
-use Prim.Native.Nat.{ℕ, suc, _+_, _*_, _-_, _≤_, _<_}
+use Prim.Native.Nat.{ℕ, suc, _+_, _-_, _≤_, _<_}
 use native.Mathlib.Numerals.{add-one}
 use native.Mathlib.Omega.{arith}
 use mathlib.Core.Path.{_≡_, sym, ap, _∙_}
@@ -7,7 +7,6 @@ use mathlib.Core.Bool.{Bool, true, false, not}
 use mathlib.Core.List.{List, [], _∷_, _++_, flatMap, flatten, append-nil}
 use lib.Dec.{ltb, eqb}
 use lib.ListN.{length, getD, drop}
-use lib.Seq.{drop-drop}
 use Rattle.orm.specs.Diagram.{Diagram, isRoot, plays, mustPlay, index, allRoles}
 use Rattle.orm.specs.Form.{typeOf, roleOf, groupOf}
 use Rattle.counting.specs.Lists.{mapFrom}
@@ -17,8 +16,8 @@ use Rattle.orm.specs.Sets.{limitsOfPred, limitsOfType, limits}
 use Rattle.lowering.specs.Encoding.{encodeExpr, encode}
 use Rattle.buffer.specs.Written.{Wrote, Writing, Splits}
 use Rattle.buffer.specs.Laws.{wrote-then, wrote-as, writing-start}
-use Rattle.table.specs.Positions.{each, typesIn, rolesIn, groupsIn, typeCount, predCount, diagramOf}
-use Rattle.table.specs.Laws.Walks.{each-more, each-none}
+use Rattle.table.specs.Positions.{each, typesIn, roleWidth, rolesIn, groupsIn, rolesStart, groupsStart, typeCount, predCount, diagramOf}
+use Rattle.table.specs.Laws.Walks.{each-more, each-none, roles-here, groups-here}
 use Rattle.table.specs.Cursors.{placedAt, placedLeft, firstCursor, nextCursor}
 use Rattle.table.specs.Laws.Cursors.{placed-start, placed-more, placed-none}
 use Rattle.table.specs.declared.Cursor.{Cursor}
@@ -51,8 +50,8 @@ module _ {A : Type 0} (make : List ℕ → A) (k : ℕ) (g : ℕ → A → List 
 module _ (t : List ℕ) (x : Placed) (q n i : ℕ) where
   pub roles-more : 0 < n
       → Splits (items (limitsOfRole x) i (rolesIn n (drop q t))) (encode (limitsOfRole x i (roleOf (drop q t))))
-      (items (limitsOfRole x) (i + 1) (rolesIn (n - 1) (drop (q + 3) t)))
-  roles-more = items-more roleOf 3 (limitsOfRole x) t q n i
+      (items (limitsOfRole x) (i + 1) (rolesIn (n - 1) (drop (q + roleWidth) t)))
+  roles-more = items-more roleOf roleWidth (limitsOfRole x) t q n i
 
   pub groups-more : 0 < n
       → Splits (items (limitsOfGroup x) i (groupsIn n (drop q t))) (encode (limitsOfGroup x i (groupOf (drop q t))))
@@ -60,19 +59,19 @@ module _ (t : List ℕ) (x : Placed) (q n i : ℕ) where
   groups-more = items-more groupOf 2 (limitsOfGroup x) t q n i
 
 module _ (t : List ℕ) (x : Cursor) (o : List ℕ) (at : ℕ) where
-  pub roles-start : {n : ℕ} → n ≡ getD (drop (x .at) t) 2 0
+  pub roles-start : {n q : ℕ} → n ≡ getD (drop (x .at) t) 2 0 → q ≡ x .at + rolesStart
       → Writing o at (items (limitsOfRole (placedAt t x)) (x .roles) (placedAt t x .predicate .roles)) o at
-      (items (limitsOfRole (placedAt t x)) (x .roles) (rolesIn n (drop (x .at + 4) t)))
+      (items (limitsOfRole (placedAt t x)) (x .roles) (rolesIn n (drop q t)))
   unfolding placedAt
-  roles-start en =
-      rw (en, ← drop-drop 4 (x .at) t) (writing-start o at (items (limitsOfRole (placedAt t x)) (x .roles) (placedAt t x .predicate .roles)))
+  roles-start en eq =
+      rw (roles-here t (x .at) en eq) (writing-start o at (items (limitsOfRole (placedAt t x)) (x .roles) (placedAt t x .predicate .roles)))
 
-  pub groups-start : {i r n : ℕ} → n ≡ getD (drop (x .at) t) 3 0 → r ≡ getD (drop (x .at) t) 2 0 → i ≡ r
+  pub groups-start : {n q : ℕ} → n ≡ getD (drop (x .at) t) 3 0 → q ≡ x .at + groupsStart (drop (x .at) t)
       → Writing o at (items (limitsOfGroup (placedAt t x)) 1 (placedAt t x .predicate .groups)) o at
-      (items (limitsOfGroup (placedAt t x)) 1 (groupsIn n (drop (x .at + (4 + 3 * i)) t)))
+      (items (limitsOfGroup (placedAt t x)) 1 (groupsIn n (drop q t)))
   unfolding placedAt
-  groups-start en er ei =
-      rw (en, ei, er, ← drop-drop (4 + 3 * getD (drop (x .at) t) 2 0) (x .at) t)
+  groups-start en eq =
+      rw (groups-here t (x .at) en eq)
       (writing-start o at (items (limitsOfGroup (placedAt t x)) 1 (placedAt t x .predicate .groups)))
 
 -- ---- predicates

@@ -14,7 +14,7 @@ ghost use Rattle.orm.specs.Sets.{limitsOfRole, limitsOfGroup};
 ghost use Rattle.orm.specs.Sets.{limitOfRows, limitsOfPred, placed};
 ghost use Rattle.lowering.specs.Encoding.{encode};
 ghost use Rattle.buffer.specs.Written.{Wrote};
-ghost use Rattle.table.specs.Positions.{diagramOf, Walkable};
+ghost use Rattle.table.specs.Positions.{roleWidth, diagramOf, Walkable};
 ghost use Rattle.table.specs.Cursors.{placedAt, Here};
 ghost use Rattle.limits.specs.Single.{limitOfGroup};
 
@@ -31,7 +31,7 @@ fn group_set(x: table::Cursor, number: u32) -> u32
 fn push_role(t: &[u32], x: table::Cursor, p: u32, q: usize, out: &mut [u32], at: usize) -> usize
     requires { ⌜ Walkable (now t) ⌝ }
     requires { ⌜ Here (now t) x ⌝ }
-    requires { ⌜ q + 3 ≤ length (now t) ⌝ }
+    requires { ⌜ q + roleWidth ≤ length (now t) ⌝ }
     ensures { λ r.
         ⌜ Wrote (now (out .entry)) at (encode (limitsOfRole (placedAt (now (t .entry)) x) p (roleOf (drop q (now (t .entry))))))
         (now (out .exit)) r ⌝ }
@@ -114,12 +114,12 @@ fn push_role_limits(t: &[u32], x: table::Cursor, out: &mut [u32], at: usize) -> 
         (now (out .exit)) r ⌝ }
 {
     let mut left = table::number(t, x.at, 2);
-    let mut q = x.at + 4;
+    let mut q = table::roles_at(t, x.at);
     let mut p = x.roles;
     let mut to = at;
     while 0 < left {
         to = push_role(t, x, p, q, out, to);
-        q += 3;
+        q += table::ROLE_WIDTH;
         p += 1;
         left -= 1;
     }
@@ -135,7 +135,7 @@ fn push_group_limits(t: &[u32], x: table::Cursor, out: &mut [u32], at: usize) ->
         (now (out .exit)) r ⌝ }
 {
     let mut left = table::number(t, x.at, 3);
-    let mut q = x.at + (4 + 3 * table::index(table::number(t, x.at, 2)));
+    let mut q = table::groups_at(t, x.at);
     let mut number: u32 = 1;
     let mut to = at;
     while 0 < left {

@@ -17,8 +17,8 @@ use Rattle.counting.specs.Laws.Distinct.{member-decides}
 use Rattle.counting.specs.Laws.Instances.{eqb-decides}
 use Rattle.sorting.specs.Search.{below, below-in, below-apart}
 use Rattle.orm.specs.Form.{roleOf}
-use Rattle.table.specs.Positions.{predOf, predLength, predsIn, rolesIn, predCount, firstPredAt, diagramOf}
-use Rattle.table.specs.Laws.Walks.{each-more, each-none, preds-more, preds-none}
+use Rattle.table.specs.Positions.{predOf, predLength, predsIn, roleWidth, rolesStart, rolesIn, predCount, firstPredAt, diagramOf}
+use Rattle.table.specs.Laws.Walks.{role-more, role-none, preds-more, preds-none}
 use Rattle.columns.specs.declared.Column.{Column}
 use Rattle.columns.specs.Values.{spaced, valuesIn}
 use Rattle.columns.specs.Walks.{spaced-more, spaced-none}
@@ -159,24 +159,24 @@ module _ (vs marks₀ marks t s : List ℕ) (number pred at role j left : ℕ) w
   pub roles-marked : RolesLeft → left ≤ 0
       → Noted vs marks₀ marks (amongRoles number 0 (predOf (drop pred t) .roles) (rowsAt (predWidth (predOf (drop pred t))) (drop at s)))
   unfolding inRoles amongRoles
-  roles-marked n h = noting-end vs marks₀ marks _ _ (λ y. rw (each-none roleOf 3 left (drop role t) h)) n
+  roles-marked n h = noting-end vs marks₀ marks _ _ (λ y. rw (role-none left (drop role t) h)) n
 
   pub roles-more : {w : ℕ} (c : Column) {marks′ : List ℕ} → Noted vs marks marks′ (amongRole number (roleOf (drop role t)) (valuesIn s c))
       → RolesLeft → 0 < left → w ≡ predWidth (predOf (drop pred t)) → valuesIn s c ≡ column j (rowsAt w (drop at s))
-      → Noting vs marks₀ marks′ (amongRoles number (j + 1) (rolesIn (left - 1) (drop (role + 3) t)) (rowsAt (predWidth (predOf (drop pred t)))
+      → Noting vs marks₀ marks′ (amongRoles number (j + 1) (rolesIn (left - 1) (drop (role + roleWidth) t)) (rowsAt (predWidth (predOf (drop pred t)))
       (drop at s)))
       (amongRoles number 0 (predOf (drop pred t) .roles) (rowsAt (predWidth (predOf (drop pred t))) (drop at s)))
   unfolding inRoles amongRoles amongRole
   roles-more c m n h f q =
       noting-more vs marks₀ marks _ _ _ (λ y. inRole y number (roleOf (drop role t)) (valuesIn s c))
-      (λ y. rw (each-more roleOf 3 t role left h, inRoles, q, f, add-one)) n m
+      (λ y. rw (role-more t role left h, inRoles, q, f, add-one)) n m
 
-module _ (vs marks t s : List ℕ) (number pred at : ℕ) {w : ℕ} (e : w ≡ predWidth (predOf (drop pred t))) where
-  pub roles-start : Noting vs marks marks (amongRoles number 0 (rolesIn w (drop (pred + 4) t)) (rowsAt (predWidth (predOf (drop pred t)))
+module _ (vs marks t s : List ℕ) (number pred at : ℕ) {w role : ℕ} (e : w ≡ getD (drop pred t) 2 0) (f : role ≡ pred + rolesStart) where
+  pub roles-start : Noting vs marks marks (amongRoles number 0 (rolesIn w (drop role t)) (rowsAt (predWidth (predOf (drop pred t)))
       (drop at s)))
       (amongRoles number 0 (predOf (drop pred t) .roles) (rowsAt (predWidth (predOf (drop pred t))) (drop at s)))
   unfolding amongRoles
-  roles-start = record { each = λ x m. ap (λ (b : Bool). marked vs marks x || b) (in-roles-start t x number _ pred e) }
+  roles-start = record { each = λ x m. ap (λ (b : Bool). marked vs marks x || b) (in-roles-start t x number _ pred e f) }
 
 -- ---- all predicates
 

@@ -13,12 +13,11 @@ use Rattle.counting.specs.Laws.Distinct.{member-append}
 use Rattle.orm.specs.Diagram.{Role, Predicate}
 use Rattle.orm.specs.Form.{roleOf}
 use Rattle.orm.specs.Constraints.{Played, played, allPlayed, valuesInRoles}
-use Rattle.table.specs.Positions.{predOf, predLength, predsIn, rolesIn, predCount, firstPredAt, diagramOf}
-use Rattle.table.specs.Laws.Walks.{each-more, each-none, preds-more, preds-none}
+use Rattle.table.specs.Positions.{predOf, predLength, predsIn, roleWidth, rolesStart, rolesIn, predCount, firstPredAt, diagramOf}
+use Rattle.table.specs.Laws.Walks.{role-more, role-none, roles-here, preds-more, preds-none}
 use Rattle.columns.specs.declared.Column.{Column}
 use Rattle.columns.specs.Values.{valuesIn}
 use Rattle.blocks.specs.Blocks.{blockLength, contents, predWidth, rowsAt, rowsIn, behindTypes, populationAt}
-use Rattle.blocks.specs.Places.{roles-at}
 use Rattle.playing.specs.Playing.{inRole, inRoles, inPreds, playedBy, populationOf}
 
 -- ---- one role
@@ -41,7 +40,7 @@ module _ (t s : List ℕ) (x number v at : ℕ) (all-roles : Bool) (role j left 
 
   pub in-roles-none : InRolesLeft → left ≤ 0 → false ≡ all-roles
   unfolding inRoles
-  in-roles-none i h = rw (each-none roleOf 3 left (drop role t) h) at i
+  in-roles-none i h = rw (role-none left (drop role t) h) at i
 
   module _ {b : Bool} {w : ℕ} (c : Column) (i : InRolesLeft) (h : 0 < left) (f : w ≡ v) (q : valuesIn s c ≡ column j (rowsAt w (drop at s)))
       (e : b ≡ inRole x number (roleOf (drop role t)) (valuesIn s c)) where
@@ -50,15 +49,15 @@ module _ (t s : List ℕ) (x number v at : ℕ) (all-roles : Bool) (role j left 
 
     pub in-roles-here : b ≡ true → true ≡ all-roles
     unfolding inRoles
-    in-roles-here n = rw (each-more roleOf 3 t role left h, inRoles, tested, n) at i
+    in-roles-here n = rw (role-more t role left h, inRoles, tested, n) at i
 
-    pub in-roles-more : b ≡ false → inRoles x number (j + 1) (rolesIn (left - 1) (drop (role + 3) t)) (rowsAt v (drop at s)) ≡ all-roles
+    pub in-roles-more : b ≡ false → inRoles x number (j + 1) (rolesIn (left - 1) (drop (role + roleWidth) t)) (rowsAt v (drop at s)) ≡ all-roles
     unfolding inRoles
-    in-roles-more n = rw add-one (rw (each-more roleOf 3 t role left h, inRoles, tested, n) at i)
+    in-roles-more n = rw add-one (rw (role-more t role left h, inRoles, tested, n) at i)
 
-pub in-roles-start : (t : List ℕ) (x number : ℕ) (rows : List (List ℕ)) (pred : ℕ) {w : ℕ} → w ≡ predWidth (predOf (drop pred t))
-    → inRoles x number 0 (rolesIn w (drop (pred + 4) t)) rows ≡ inRoles x number 0 (predOf (drop pred t) .roles) rows
-in-roles-start t x number rows pred e = ap (λ (rs : List Role). inRoles x number 0 rs rows) (roles-at t pred e)
+pub in-roles-start : (t : List ℕ) (x number : ℕ) (rows : List (List ℕ)) (pred : ℕ) {w role : ℕ} → w ≡ getD (drop pred t) 2 0
+    → role ≡ pred + rolesStart → inRoles x number 0 (rolesIn w (drop role t)) rows ≡ inRoles x number 0 (predOf (drop pred t) .roles) rows
+in-roles-start t x number rows pred e f = ap (λ (rs : List Role). inRoles x number 0 rs rows) (roles-here t pred e f)
 
 -- ---- the definition, role by role
 

@@ -37,14 +37,14 @@ fn in_roles(t: &[u32], cells: &[u32], x: u32, number: u32, pred: usize, at: usiz
     ensures { λ r. ⌜ r ≡ inRoles x number 0 (predAt (now (t .entry)) pred .roles) (rowsHere (now (t .entry)) (now (cells .entry)) pred at) ⌝ }
 {
     let w = blocks::width(t, pred);
-    let mut role = pred + 4;
+    let mut role = table::roles_at(t, pred);
     let mut j: usize = 0;
     let mut left = w;
     while 0 < left {
         if in_role(t, cells, x, number, role, blocks::column(cells, at, w, j)) {
             return true;
         }
-        role += 3;
+        role += table::ROLE_WIDTH;
         j += 1;
         left -= 1;
     }
@@ -163,7 +163,7 @@ fn mark_roles(
         (amongRoles number 0 (predAt (now (t .entry)) pred .roles) (rowsHere (now (t .entry)) (now (cells .entry)) pred at)) ⌝ }
 {
     let w = blocks::width(t, pred);
-    let mut role = pred + 4;
+    let mut role = table::roles_at(t, pred);
     let mut j: usize = 0;
     let mut left = w;
     while 0 < left {
@@ -177,7 +177,7 @@ fn mark_roles(
             list,
             marks,
         );
-        role += 3;
+        role += table::ROLE_WIDTH;
         j += 1;
         left -= 1;
     }

@@ -1,19 +1,17 @@
--- What populating starts from, and what it makes of the settled sizes.
+-- What populating makes of the settled sizes.
 use Prim.Native.Nat.{ℕ}
-use mathlib.Core.Path.{_≡_}
 use mathlib.Core.List.{List}
-use Rattle.fixpoint.specs.Limits.{fixpoint}
 use Rattle.orm.specs.Diagram.{Diagram}
 use Rattle.orm.specs.Sets.{verdict}
 use Rattle.orm.specs.Population.{cells}
 use Rattle.orm.specs.Populate.{population}
+use Rattle.orm.specs.Outcome.{Outcome, Sized}
+use Rattle.orm.specs.Calls.{settledInto}
 use Rattle.table.specs.Positions.{diagramOf}
-use Rattle.table.specs.Valid.{Valid}
 
 abbrev pub cellsOf : Diagram → List ℕ → List ℕ
 cellsOf d c = cells (population d c)
 
--- The rounds of a valid table's diagram end with these sizes, after so many
-pub record Settled (t c : List ℕ) (rounds : ℕ) : Type 0 where
-  pub valid : Valid t
-  pub ended : verdict (diagramOf t) ≡ fixpoint rounds c
+-- The outcome of populating a valid table
+abbrev pub populated : List ℕ → ℕ → Outcome Sized
+populated t space = settledInto 7 (cellsOf (diagramOf t)) (verdict (diagramOf t)) space

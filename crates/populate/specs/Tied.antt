@@ -16,24 +16,15 @@ use Rattle.guarantee.specs.Settling.{Writes}
 use Rattle.guarantee.specs.Guarantee.{NoPopulation, EmptiedAt, RefusesEmptied, Populated, TableGuarantee, FaultOfForm}
 use Rattle.guarantee.specs.Proof.{guarantee}
 use Rattle.grammar.specs.Fault.{numberOf}
-use Rattle.grammar.specs.declared.Fault.{Fault}
-use Rattle.grammar.specs.declared.Fault.the-variants.{Malformed, OutOfRange, Unknown, Disordered, Unnamed, Miscounted}
 use Rattle.reader.specs.Answer.{conversionOf}
 use Rattle.reader.specs.declared.Conversion.{Conversion}
 use Rattle.reader.specs.declared.Conversion.the-variants as reads
 use Rattle.bounds.specs.Answer.{settlementOf}
+use Rattle.grammar.specs.Laws.Faults.{few-faults}
 use Rattle.bounds.specs.declared.Settlement.{Settlement}
 use Rattle.bounds.specs.declared.Settlement.the-variants.{Refused, Unsatisfiable, TooShort, Accepted}
 use Rattle.populate.specs.Answer.{cellsOf}
 use Rattle.populate.specs.Demand3.{TableOf, Making, settledSizes, Means, TableMeans, TextOf, ReadMeans, Demand3}
-
-few-faults : (f : Fault) → numberOf f ≤ 6
-few-faults Malformed = omega arith
-few-faults OutOfRange = omega arith
-few-faults Unknown = omega arith
-few-faults Disordered = omega arith
-few-faults Unnamed = omega arith
-few-faults Miscounted = omega arith
 
 -- ---- a call that ends by the guarantee
 

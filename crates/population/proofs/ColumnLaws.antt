@@ -4,7 +4,6 @@ use native.Mathlib.Numerals.{add-one}
 use mathlib.Core.Path.{_≡_, ap, _∙_}
 use mathlib.Core.List.{List, [], _∷_, flatten}
 use lib.ListN.{getD, drop}
-use lib.Seq.{drop-drop}
 use Rattle.counting.specs.Lists.{mapFrom}
 use Rattle.orm.specs.Diagram.{Role, Diagram}
 use Rattle.orm.specs.Form.{roleOf}
@@ -13,8 +12,8 @@ use Rattle.orm.specs.Supertypes.{firstValue}
 use Rattle.orm.specs.Populate.{takenBefore}
 use Rattle.buffer.specs.Written.{Wrote, Writing, Splits}
 use Rattle.buffer.specs.Laws.{wrote-then, wrote-as, writing-all}
-use Rattle.table.specs.Positions.{rolesIn}
-use Rattle.table.specs.Laws.Walks.{each-more, each-none}
+use Rattle.table.specs.Positions.{roleWidth, rolesIn, rolesStart}
+use Rattle.table.specs.Laws.Walks.{role-more, role-none, roles-here}
 use Rattle.table.specs.Cursors.{placedAt}
 use Rattle.table.specs.declared.Cursor.{Cursor}
 use Rattle.population.specs.Plan.{position, played, columnOf}
@@ -42,16 +41,16 @@ module _ (d : Diagram) (c types roles : List ℕ) where
   module _ (t : List ℕ) (q n p : ℕ) where
     pub columns-more : 0 < n
         → Splits (columnsFrom p (rolesIn n (drop q t))) (columnOf d c types roles p (roleOf (drop q t)))
-        (columnsFrom (p + 1) (rolesIn (n - 1) (drop (q + 3) t)))
+        (columnsFrom (p + 1) (rolesIn (n - 1) (drop (q + roleWidth) t)))
     unfolding mapFrom flatten
-    columns-more h = record { is = ap (columnsFrom p) (each-more roleOf 3 t q n h) ∙ rw add-one }
+    columns-more h = record { is = ap (columnsFrom p) (role-more t q n h) ∙ rw add-one }
 
     pub columns-none : n ≤ 0 → columnsFrom p (rolesIn n (drop q t)) ≡ []
     unfolding mapFrom flatten
-    columns-none h = ap (columnsFrom p) (each-none roleOf 3 n (drop q t) h)
+    columns-none h = ap (columnsFrom p) (role-none n (drop q t) h)
 
-  pub columns-all : (t : List ℕ) (x : Cursor) (q n p : ℕ) {o o′ : List ℕ} {at to m : ℕ} → m ≡ getD (drop (x .at) t) 2 0 → n ≤ 0
-      → Writing o at (columnsFrom (x .roles) (rolesIn m (drop (x .at + 4) t))) o′ to (columnsFrom p (rolesIn n (drop q t)))
+  pub columns-all : (t : List ℕ) (x : Cursor) (q n p : ℕ) {o o′ : List ℕ} {at to m e : ℕ} → m ≡ getD (drop (x .at) t) 2 0 → e ≡ x .at + rolesStart
+      → n ≤ 0 → Writing o at (columnsFrom (x .roles) (rolesIn m (drop e t))) o′ to (columnsFrom p (rolesIn n (drop q t)))
       → Wrote o at (columnsFrom (x .roles) (placedAt t x .predicate .roles)) o′ to
   unfolding placedAt
-  columns-all t x q n p em h w = wrote-as (writing-all w (columns-none t q n p h)) (rw (em, ← drop-drop 4 (x .at) t))
+  columns-all t x q n p em ee h w = wrote-as (writing-all w (columns-none t q n p h)) (ap (columnsFrom (x .roles)) (roles-here t (x .at) em ee))

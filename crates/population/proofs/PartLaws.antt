@@ -1,5 +1,5 @@
 -- The parts of a predicate as lists of numbers, and how long these are.
-use Prim.Native.Nat.{ℕ, zero, suc, _+_, _*_, _-_, min, _≤_, _<_}
+use Prim.Native.Nat.{ℕ, zero, suc, _+_, _-_, min, _≤_, _<_}
 use native.Mathlib.Numerals.{add-one}
 use native.Mathlib.Nat.{add-zero}
 use native.Mathlib.Omega.{arith}
@@ -14,12 +14,11 @@ use Rattle.counting.specs.Lists.{upFrom}
 use Rattle.counting.specs.Laws.Range.{length-upFrom}
 use Rattle.counting.specs.Laws.Maps.{flatMap-append, flatMap-map, flatMap-single}
 use Rattle.orm.specs.Diagram.{Role}
-use Rattle.orm.specs.Form.{groupOf, roleOf}
 use Rattle.orm.specs.Sets.{Placed, Part, parts, groupPart, rolePart, groupSet, groupRoles, rolesInGroup, select}
 use Rattle.orm.specs.Populate.{size}
 use Rattle.buffer.specs.Written.{Wrote, Writing, Splits}
 use Rattle.buffer.specs.Laws.{wrote-then, wrote-as, wrote-end, wrote-front, wrote-within, writing-start}
-use Rattle.table.specs.Laws.Walks.{each-length}
+use Rattle.table.specs.Laws.Walks as walks
 use Rattle.table.specs.Cursors.{placedAt}
 use Rattle.table.specs.Valid.{Under}
 use Rattle.table.specs.Laws.Valid.{under-nil, under-cons, under-append}
@@ -149,11 +148,11 @@ under-map f (x ∷ xs) h = under-cons (h x) (under-map f xs h)
 module _ (t : List ℕ) (x : Cursor) where
   pub group-count : length (placedAt t x .predicate .groups) ≡ getD (drop (x .at) t) 3 0
   unfolding placedAt
-  group-count = each-length groupOf 2 (getD (drop (x .at) t) 3 0) (drop (4 + 3 * getD (drop (x .at) t) 2 0) (drop (x .at) t))
+  group-count = walks.group-count (drop (x .at) t)
 
   pub role-count : length (placedAt t x .predicate .roles) ≡ getD (drop (x .at) t) 2 0
   unfolding placedAt
-  role-count = each-length roleOf 3 (getD (drop (x .at) t) 2 0) (drop 4 (drop (x .at) t))
+  role-count = walks.role-count (drop (x .at) t)
 
   group-few : (g : ℕ) → SmallArity t x → length (groupRoles (placedAt t x) g) ≤ 6
   unfolding groupRoles rolesInGroup

@@ -14,7 +14,7 @@ ghost use Rattle.orm.specs.Sets.{firstRole};
 ghost use Rattle.orm.specs.Supertypes.{firstValue};
 ghost use Rattle.orm.specs.Populate.{takenBefore};
 ghost use Rattle.buffer.specs.Written.{Wrote};
-ghost use Rattle.table.specs.Positions.{diagramOf, Walkable};
+ghost use Rattle.table.specs.Positions.{roleWidth, diagramOf, Walkable};
 ghost use Rattle.table.specs.Cursors.{placedAt, Here};
 ghost use Rattle.tuples.specs.Steps.{Small};
 ghost use Rattle.population.specs.Plan.{position, played, share, columnOf};
@@ -129,7 +129,7 @@ fn push_column(
     requires { ⌜ Walkable (now t) ⌝ }
     requires { ⌜ Small (now c) ⌝ }
     requires { ⌜ Listed (now types) (now roles) ⌝ }
-    requires { ⌜ q + 3 ≤ length (now t) ⌝ }
+    requires { ⌜ q + roleWidth ≤ length (now t) ⌝ }
     ensures { λ r.
         ⌜ Wrote (now (out .entry)) at
         (columnOf (diagramOf (now (t .entry))) (now (c .entry)) (now (types .entry)) (now (roles .entry)) p (roleOf (drop q (now (t .entry)))))
@@ -160,12 +160,12 @@ pub fn push_columns(
         (now (out .exit)) r ⌝ }
 {
     let mut left = table::number(t, x.at, 2);
-    let mut q = x.at + 4;
+    let mut q = table::roles_at(t, x.at);
     let mut p = x.roles;
     let mut to = 0;
     while 0 < left {
         to = push_column(t, c, types, roles, p, q, out, to);
-        q += 3;
+        q += table::ROLE_WIDTH;
         p += 1;
         left -= 1;
     }

@@ -8,12 +8,11 @@ use mathlib.Core.List.{List, [], _∷_, _++_}
 use lib.ListN.{length, getD, drop}
 use lib.Seq.{drop-drop}
 use Rattle.orm.specs.Diagram.{Predicate}
-use Rattle.orm.specs.Form.{roleOf}
 use Rattle.orm.specs.Text.{bytes}
 use Rattle.buffer.specs.Written.{Wrote, Writing, Splits}
 use Rattle.buffer.specs.Laws.{wrote-then, writing-start}
 use Rattle.table.specs.Positions.{predOf, predLength, predsIn, typeCount, predCount, firstPredAt, diagramOf}
-use Rattle.table.specs.Laws.Walks.{preds-more, preds-none, each-length}
+use Rattle.table.specs.Laws.Walks.{preds-more, preds-none, role-count}
 use Rattle.numerals.specs.Lines.{numbersFrom, keyed, keyedLines}
 use Rattle.report.specs.Printed.{typeLines, typesEnd, predBlock, predLines, sizeLines, cellLines, printed}
 
@@ -70,7 +69,7 @@ unfolding predLines
 pred-lines-more t s q p left number {e} {width} {f} {size} {m} h ef eq es em ee =
     let ew : width ≡ getD (drop q t) 2 0 = ef ∙ eq in
     let x : List ℕ = drop q t in
-    let long : length (predOf x .roles) ≡ width = each-length roleOf 3 (getD x 2 0) (drop 4 x) ∙ sym ew in
+    let long : length (predOf x .roles) ≡ width = role-count x ∙ sym ew in
     let rest : List Predicate = predsIn (left - 1) (drop e t) in
     record {
       is =

@@ -11,7 +11,7 @@ ghost use Rattle.counting.specs.Lists.{when, upFrom};
 ghost use Rattle.orm.specs.Sets.{rolesInGroup, groupRoles};
 ghost use Rattle.buffer.specs.Written.{Wrote};
 ghost use Rattle.orm.specs.Diagram.{allRoles};
-ghost use Rattle.table.specs.Positions.{rolesIn, diagramOf, Walkable};
+ghost use Rattle.table.specs.Positions.{roleWidth, rolesIn, diagramOf, Walkable};
 ghost use Rattle.table.specs.Cursors.{placedAt, Here};
 ghost use Rattle.selection.specs.Selected.{typesOf, positions, Types};
 
@@ -72,7 +72,7 @@ pub fn push_up(out: &mut [u32], at: usize, first: u32, count: u32) -> usize
 // The types of the `count` roles from position q on.
 fn push_types(t: &[u32], q: usize, count: u32, out: &mut [u32], at: usize) -> usize
     requires { ⌜ Walkable (now t) ⌝ }
-    requires { ⌜ q + 3 * count ≤ length (now t) ⌝ }
+    requires { ⌜ q + roleWidth * count ≤ length (now t) ⌝ }
     ensures { λ r. ⌜ Wrote (now (out .entry)) at (typesOf (rolesIn count (drop q (now (t .entry))))) (now (out .exit)) r ⌝ }
 {
     let mut left = count;
@@ -80,7 +80,7 @@ fn push_types(t: &[u32], q: usize, count: u32, out: &mut [u32], at: usize) -> us
     let mut to = at;
     while 0 < left {
         to = buffer::push(out, to, table::number(t, p, 0));
-        p += 3;
+        p += table::ROLE_WIDTH;
         left -= 1;
     }
     to
@@ -96,7 +96,7 @@ pub fn write_types(t: &[u32], out: &mut [u32]) -> usize
     let mut to = 0;
     while 0 < left {
         let count = table::number(t, q, 2);
-        to = push_types(t, q + 4, count, out, to);
+        to = push_types(t, table::roles_at(t, q), count, out, to);
         q = table::next_pred(t, q);
         left -= 1;
     }
@@ -160,7 +160,7 @@ fn push_roles(
     at: usize,
 ) -> usize
     requires { ⌜ Walkable (now t) ⌝ }
-    requires { ⌜ q + 3 * count ≤ length (now t) ⌝ }
+    requires { ⌜ q + roleWidth * count ≤ length (now t) ⌝ }
     requires { ⌜ first + count < 4294967296 ⌝ }
     ensures { λ r.
         ⌜ Wrote (now (out .entry)) at (rolesInGroup number first (rolesIn count (drop q (now (t .entry))))) (now (out .exit)) r ⌝ }
@@ -172,7 +172,7 @@ fn push_roles(
     while 0 < left {
         let yes = same(table::number(t, p, 2), number);
         to = push_if(out, to, yes, set);
-        p += 3;
+        p += table::ROLE_WIDTH;
         set += 1;
         left -= 1;
     }
@@ -182,7 +182,7 @@ fn push_roles(
 // How many they are.
 fn count_roles(t: &[u32], q: usize, count: u32, number: u32) -> u32
     requires { ⌜ Walkable (now t) ⌝ }
-    requires { ⌜ q + 3 * count ≤ length (now t) ⌝ }
+    requires { ⌜ q + roleWidth * count ≤ length (now t) ⌝ }
     ensures { λ r. ⌜ r ≡ length (rolesInGroup number 0 (rolesIn count (drop q (now (t .entry))))) ⌝ }
     ensures { λ r. ⌜ r ≤ count ⌝ }
 {
@@ -192,7 +192,7 @@ fn count_roles(t: &[u32], q: usize, count: u32, number: u32) -> u32
     while 0 < left {
         let yes = same(table::number(t, p, 2), number);
         n = add_if(n, yes);
-        p += 3;
+        p += table::ROLE_WIDTH;
         left -= 1;
     }
     n
@@ -205,7 +205,7 @@ pub fn push_in_group(t: &[u32], x: table::Cursor, number: u32, out: &mut [u32], 
     ensures { λ r. ⌜ Wrote (now (out .entry)) at (groupRoles (placedAt (now (t .entry)) x) number) (now (out .exit)) r ⌝ }
 {
     let count = table::number(t, x.at, 2);
-    push_roles(t, x.at + 4, count, x.roles, number, out, at)
+    push_roles(t, table::roles_at(t, x.at), count, x.roles, number, out, at)
 }
 
 // How many they are.
@@ -216,5 +216,5 @@ pub fn count_in_group(t: &[u32], x: table::Cursor, number: u32) -> u32
     ensures { λ r. ⌜ r ≤ getD (drop (x .at) (now (t .entry))) 2 0 ⌝ }
 {
     let count = table::number(t, x.at, 2);
-    count_roles(t, x.at + 4, count, number)
+    count_roles(t, table::roles_at(t, x.at), count, number)
 }

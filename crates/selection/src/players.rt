@@ -5,12 +5,12 @@ ghost use Prim.Native.Nat.{_+_, _*_, _≤_};
 ghost use lib.ListN.{length, drop};
 ghost use Rattle.orm.specs.Diagram.{allRoles, plays, mustPlay};
 ghost use Rattle.orm.specs.Form.{typeOf};
-ghost use Rattle.table.specs.Positions.{rolesIn, diagramOf, Walkable};
+ghost use Rattle.table.specs.Positions.{roleWidth, rolesIn, diagramOf, Walkable};
 
 // Whether the type with this number plays one of the `count` roles from position q on.
 fn plays_one(t: &[u32], q: usize, count: u32, number: u32) -> bool
     requires { ⌜ Walkable (now t) ⌝ }
-    requires { ⌜ q + 3 * count ≤ length (now t) ⌝ }
+    requires { ⌜ q + roleWidth * count ≤ length (now t) ⌝ }
     ensures { λ r. ⌜ r ≡ plays number (rolesIn count (drop q (now (t .entry)))) ⌝ }
 {
     let mut left = count;
@@ -19,7 +19,7 @@ fn plays_one(t: &[u32], q: usize, count: u32, number: u32) -> bool
         if same(number, table::number(t, p, 0)) {
             return true;
         }
-        p += 3;
+        p += table::ROLE_WIDTH;
         left -= 1;
     }
     false
@@ -34,7 +34,7 @@ pub fn plays(t: &[u32], number: u32) -> bool
     let mut q = table::first_pred(t);
     while 0 < left {
         let count = table::number(t, q, 2);
-        if plays_one(t, q + 4, count, number) {
+        if plays_one(t, table::roles_at(t, q), count, number) {
             return true;
         }
         q = table::next_pred(t, q);

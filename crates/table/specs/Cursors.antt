@@ -1,5 +1,5 @@
 -- A walk over the predicates that knows their sets: the cursor's predicate with its sets, and the next cursor.
-use Prim.Native.Nat.{ℕ, _+_, _*_, _≤_, _<_}
+use Prim.Native.Nat.{ℕ, _+_, _≤_, _<_}
 use mathlib.Core.List.{List, flatMap}
 use lib.ListN.{length, getD, drop}
 use Rattle.orm.specs.Diagram.{Predicate}
@@ -43,7 +43,7 @@ pub record Reach (t : List ℕ) (x : Cursor) (n : ℕ) : Type 0 where
 
 -- The predicate at the cursor stands in the table, and its sets among those of a diagram
 pub record Here (t : List ℕ) (x : Cursor) : Type 0 where
-  pub inside : x .at + (4 + 3 * getD (drop (x .at) t) 2 0 + 2 * getD (drop (x .at) t) 3 0) ≤ length t
+  pub inside : x .at + predLength (drop (x .at) t) ≤ length t
   pub own : x .own < 64
   pub roles : x .roles + getD (drop (x .at) t) 2 0 ≤ 160
   pub groups : x .groups + getD (drop (x .at) t) 3 0 ≤ 208

@@ -1,5 +1,5 @@
 -- The laws that relate positions in a table to the lists of its diagram.
 pub mod Walks
-pub mod TableOf
+pub mod WideTable
 pub mod Cursors
 pub mod Valid

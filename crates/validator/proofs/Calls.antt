@@ -1,21 +1,20 @@
 -- A call's outcome by what the table, the cells and the constraints come to.
 use Prim.Native.Nat.{ℕ}
-use native.Mathlib.Omega.{arith}
 use mathlib.Core.Path.{_≡_, refl, sym, ap, _∙_}
 use mathlib.Core.List.{List}
-use Rattle.orm.specs.Diagram.{Diagram}
+use lib.ListN.{take}
 use Rattle.orm.specs.Text.{tableLine}
-use Rattle.orm.specs.Constraints.{Answer, answer}
-use Rattle.orm.specs.Outcome.{Outcome, refused, accepted, _>>=_}
+use Rattle.orm.specs.Constraints.{answer}
+use Rattle.orm.specs.Outcome.{accepted, bufferAfter}
 use Rattle.orm.specs.Calls.{diagramIn, populationIn, validateCall}
+use Rattle.grammar.specs.declared.Fault.{Fault}
+use Rattle.widening.specs.Answer.{acceptanceOf, described, widened, Accepted}
+use Rattle.widening.specs.Laws.Accepts.{accepted-refused, accepted-as}
+use Rattle.widening.specs.declared.Acceptance.{Acceptance}
+use Rattle.widening.specs.declared.Acceptance.the-variants as acceptances
 use Rattle.table.specs.Positions.{diagramOf, Walkable}
 use Rattle.table.specs.Valid.{Valid}
-use Rattle.table.specs.Laws.Valid.{accepted-valid, valid-walkable}
-use Rattle.grammar.specs.declared.Fault.{Fault}
-use Rattle.grammar.specs.Fault.{numberOf}
-use Rattle.reader.specs.Answer.{formOf, totalled}
-use Rattle.reader.specs.declared.FormAnswer.{FormAnswer}
-use Rattle.reader.specs.declared.FormAnswer.the-variants as forms
+use Rattle.table.specs.Laws.Valid.{valid-walkable}
 use Rattle.blocks.specs.Blocks.{extentOf, populationAt}
 use Rattle.blocks.specs.declared.Extent.{Extent}
 use Rattle.blocks.specs.declared.Extent.the-variants.{Whole, Broken}
@@ -24,57 +23,50 @@ use Rattle.constraints.specs.Tests.{answerOf}
 use Rattle.playing.specs.Playing.{populationOf}
 use Rattle.constraints.specs.declared.Verdict.{Verdict}
 use Rattle.constraints.specs.declared.Verdict.the-variants as verdicts
+use Rattle.validator.specs.declared.ValidateAnswer.{ValidateAnswer}
 use Rattle.validator.specs.declared.ValidateAnswer.the-variants as answers
-use Rattle.validator.specs.Outcomes.{validateOf}
+use Rattle.validator.specs.Outcomes.{validateOf, validated}
 
--- ---- a table without fault, and cells
+-- ---- a valid table, and cells
 
-module _ (t s : List ℕ) (v : Valid t) where
-  call : validateCall t s ≡ (populationIn (diagramOf t) s >>= λ o. accepted (answer (diagramOf t) o))
-  unfolding validateCall
-  call = rw (v .reads, validateCall)
-
+module _ (t s : List ℕ) where
   pub cells-end : (e : Extent) (at : ℕ) → populationIn (diagramOf t) s ≡ extentOf (populationAt (diagramOf t) s) e → e ≡ Broken at
-      → validateOf (answers.CellsEnd at) ≡ validateCall t s
-  cells-end e at p q = sym (call ∙ rw (p, q))
+      → validateOf (answers.CellsEnd at) ≡ validated (diagramOf t) s
+  cells-end e at p q = sym (rw (p, q))
 
-  pub populated : (e : Extent) → populationIn (diagramOf t) s ≡ extentOf (populationAt (diagramOf t) s) e → e ≡ Whole → Populated t s
-  populated e p q = record { valid = v; whole = p ∙ ap (extentOf (populationAt (diagramOf t) s)) q }
+  pub populated : (e : Extent) → Valid t → populationIn (diagramOf t) s ≡ extentOf (populationAt (diagramOf t) s) e → e ≡ Whole → Populated t s
+  populated e v p q = record { valid = v; whole = p ∙ ap (extentOf (populationAt (diagramOf t) s)) q }
 
 module _ (t s : List ℕ) (j : Populated t s) where
-  answered : accepted (answer (diagramOf t) (populationOf t s)) ≡ validateCall t s
-  answered = sym (call t s (j .valid) ∙ rw (j .whole))
+  answered : accepted (answer (diagramOf t) (populationOf t s)) ≡ validated (diagramOf t) s
+  answered = sym (rw (j .whole))
 
   module _ (r : Verdict) (h : answerOf r ≡ answer (diagramOf t) (populationOf t s)) where
-    pub all-kept : r ≡ verdicts.Valid → validateOf answers.Valid ≡ validateCall t s
+    pub all-kept : r ≡ verdicts.Valid → validateOf answers.Valid ≡ validated (diagramOf t) s
     all-kept q = ap accepted (sym (ap answerOf q) ∙ h) ∙ answered
 
-    pub one-broken : (k n : ℕ) → r ≡ verdicts.Breaks k n → validateOf (answers.Breaks k n) ≡ validateCall t s
+    pub one-broken : (k n : ℕ) → r ≡ verdicts.Breaks k n → validateOf (answers.Breaks k n) ≡ validated (diagramOf t) s
     one-broken k n q = ap accepted (sym (ap answerOf q) ∙ h) ∙ answered
 
 -- ---- any table
 
-module _ (t : List ℕ) (r : FormAnswer) (h : formOf r ≡ totalled (diagramIn tableLine t)) where
-  pub form-valid : (types preds roles groups : ℕ) → r ≡ forms.Accepted types preds roles groups → Valid t
-  form-valid types preds roles groups q = go (diagramIn tableLine t) refl (sym (ap formOf q) ∙ h)
-    where
-      go : (o : Outcome Diagram) → diagramIn tableLine t ≡ o
-          → accepted (record { types = types; preds = preds; roles = roles; groups = groups }) ≡ totalled o → Valid t
-      go (refused c place round) e z = let y : _≡_ {A = ℕ} 0 1 = cc in absurd (omega arith)
-      go (accepted d) e z = accepted-valid t d e
-
-  pub form-walkable : (types preds roles groups : ℕ) → r ≡ forms.Accepted types preds roles groups → Walkable t
-  form-walkable types preds roles groups q = valid-walkable (form-valid types preds roles groups q)
-
-  pub form-refused : (s : List ℕ) (f : Fault) (line : ℕ) → r ≡ forms.Refused f line → validateOf (answers.Refused f line) ≡ validateCall t s
+module _ (t s : List ℕ) {r : Acceptance} {f : Fault} {line : ℕ} (p : r ≡ acceptances.Refused f line)
+    (e : acceptanceOf r ≡ described (diagramIn tableLine t)) where
+  pub table-refused : validateOf (answers.Refused f line) ≡ validateCall t s
   unfolding validateCall
-  form-refused s f line q = go (diagramIn tableLine t) refl (sym (ap formOf q) ∙ h)
-    where
-      go : (o : Outcome Diagram) → diagramIn tableLine t ≡ o → formOf (forms.Refused f line) ≡ totalled o
-          → validateOf (answers.Refused f line) ≡ (o >>= λ d. populationIn d s >>= λ p. accepted (answer d p))
-      go (refused c place round) e z =
-          let x : numberOf f ≡ c = cc in
-          let y : line ≡ place = cc in
-          let w : 0 ≡ round = cc in
-          rw (x, y, ← w)
-      go (accepted d) e z = let y : _≡_ {A = ℕ} 0 1 = cc in absurd (omega arith)
+  table-refused = rw (accepted-refused t p e, validateCall) refl
+
+module _ (t w : List ℕ) {w′ : List ℕ} {r : Acceptance} {n types preds roles groups : ℕ} (p : r ≡ acceptances.Widened n types preds roles groups)
+    (e : acceptanceOf r ≡ described (diagramIn tableLine t)) (ew : w′ ≡ bufferAfter (widened t) w) where
+  known : Accepted t (take n w′) types preds roles groups
+  known = accepted-as t w p e ew
+
+  pub table-valid : Valid (take n w′)
+  table-valid = known .valid
+
+  pub table-walkable : Walkable (take n w′)
+  table-walkable = valid-walkable table-valid
+
+  pub table-validated : (s : List ℕ) (a : ValidateAnswer) → validateOf a ≡ validated (diagramOf (take n w′)) s → validateOf a ≡ validateCall t s
+  unfolding validateCall
+  table-validated s a h = rw (known .reads, validateCall) h

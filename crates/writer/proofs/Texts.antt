@@ -1,20 +1,20 @@
 -- The text of a predicate, of all predicates and of a diagram, put together from lines.
-use Prim.Native.Nat.{ℕ, zero, suc, _+_, _*_, _-_, _≤_, _<_}
+use Prim.Native.Nat.{ℕ, zero, suc, _+_, _-_, _≤_, _<_}
 use mathlib.Core.Path.{_≡_, refl, sym, ap, ap₂, _∙_}
 use mathlib.Core.List.{List, [], _∷_, _++_, map, flatMap, append-assoc}
 use lib.ListN.{length, getD, drop}
 use lib.Seq.{drop-drop}
-use Rattle.orm.specs.Diagram.{Diagram, Line, lineOfType, lineOfRole, lineOfGroup, lineOfPred, linesOfPred, lineOfCount, predLine, predsLine, endLine, allRoles, lines}
-use Rattle.orm.specs.Form.{typeOf, roleOf, groupOf}
+use Rattle.orm.specs.Diagram.{Role, Diagram, Line, lineOfType, lineOfRole, lineOfGroup, lineOfPred, linesOfPred, lineOfCount, predLine, predsLine, endLine, allRoles, lines}
+use Rattle.orm.specs.Form.{roleFields, typeOf, roleOf, groupOf}
 use Rattle.orm.specs.Text.{bytes, key, lineText, render}
 use Rattle.reading.specs.Exact.{written, written-append, written-one}
 use Rattle.reading.specs.Cutting.{textForm}
 use Rattle.buffer.specs.Written.{Wrote, Writing, Splits}
 use Rattle.buffer.specs.Laws.{wrote-then, wrote-as, writing-start}
-use Rattle.table.specs.Positions.{each, typesIn, rolesIn, groupsIn, predOf, predLength, predsIn, typeCount, predCount, firstPredAt, diagramOf}
-use Rattle.table.specs.Laws.Walks.{each-length, preds-more, preds-none}
+use Rattle.table.specs.Positions.{each, typesIn, roleWidth, rolesIn, groupsIn, rolesStart, groupsStart, rolesOf, predOf, predLength, predsIn, typeCount, predCount, firstPredAt, diagramOf}
+use Rattle.table.specs.Laws.Walks.{each-length, role-more, role-none, role-count, group-count, roles-here, preds-more, preds-none}
 use Rattle.numerals.specs.Lines.{numbersFrom, keyed, keyedLines}
-use Rattle.writer.specs.Lines.{linesText, linesToTypes, predLines, Counted}
+use Rattle.writer.specs.Lines.{linesText, roleText, linesToTypes, predLines, Counted}
 
 -- ---- lines of one kind
 
@@ -29,39 +29,57 @@ types-text : (count : ℕ) (s : List ℕ) → keyedLines (bytes "type=") 6 count
 unfolding lineOfType lineText bytes key keyed numbersFrom
 types-text = each-text typeOf 6 lineOfType (bytes "type=") (λ s. refl)
 
-roles-text : (count : ℕ) (s : List ℕ) → keyedLines (bytes "role=") 3 count s ≡ linesText (map lineOfRole (rolesIn count s))
-unfolding lineOfRole lineText bytes key keyed numbersFrom
-roles-text = each-text roleOf 3 lineOfRole (bytes "role=") (λ s. refl)
-
 groups-text : (count : ℕ) (s : List ℕ) → keyedLines (bytes "freq=") 2 count s ≡ linesText (map lineOfGroup (groupsIn count s))
 unfolding lineOfGroup lineText bytes key keyed numbersFrom
 groups-text = each-text groupOf 2 lineOfGroup (bytes "freq=") (λ s. refl)
+
+-- ---- the roles left; their lines in the file have `roleFields` numbers
+
+pub role-is : (s : List ℕ) {o o′ : List ℕ} {at to : ℕ} → Wrote o at (keyed (bytes "role=") (numbersFrom s 0 roleFields)) o′ to
+    → Wrote o at (roleText s) o′ to
+unfolding lineOfRole lineText bytes key keyed numbersFrom
+role-is s w = wrote-as w (sym (written-one textForm (lineOfRole (roleOf s))))
+
+abbrev pub roleLines : ℕ → List ℕ → List ℕ
+roleLines n s = linesText (map lineOfRole (rolesIn n s))
+
+module _ (t : List ℕ) (p n : ℕ) where
+  pub roles-next : 0 < n → Splits (roleLines n (drop p t)) (roleText (drop p t)) (roleLines (n - 1) (drop (p + roleWidth) t))
+  roles-next h = record {
+    is =
+        ap (λ (rs : List Role). linesText (map lineOfRole rs)) (role-more t p n h)
+        ∙ written-append textForm (lineOfRole (roleOf (drop p t)) ∷ []) (map lineOfRole (rolesIn (n - 1) (drop (p + roleWidth) t)));
+  }
+
+  pub roles-end : n ≤ 0 → roleLines n (drop p t) ≡ []
+  unfolding written flatMap
+  roles-end h = ap (λ (rs : List Role). linesText (map lineOfRole rs)) (role-none n (drop p t) h)
 
 -- ---- predicates
 
 head-text : (s : List ℕ) → keyed (bytes "pred=") (numbersFrom s 0 4) ≡ lineText (key predLine) (lineOfPred (predOf s) .values)
 unfolding lineOfPred lineText bytes key keyed numbersFrom
-head-text s = rw (each-length roleOf 3 (getD s 2 0) (drop 4 s), each-length groupOf 2 (getD s 3 0) (drop (4 + 3 * getD s 2 0) s)) refl
+head-text s = rw (role-count s, group-count s) refl
 
 pred-text : (s : List ℕ)
     → keyed (bytes "pred=") (numbersFrom s 0 4)
-    ++ (keyedLines (bytes "role=") 3 (getD s 2 0) (drop 4 s) ++ keyedLines (bytes "freq=") 2 (getD s 3 0) (drop (4 + 3 * getD s 2 0) s))
+    ++ (linesText (map lineOfRole (rolesOf s)) ++ keyedLines (bytes "freq=") 2 (getD s 3 0) (drop (groupsStart s) s))
     ≡ linesText (linesOfPred (predOf s))
 unfolding linesOfPred lineOfPred written flatMap
 pred-text s =
     ap₂ {C = List ℕ} (λ a b. a ++ b) (head-text s)
-    (ap₂ {C = List ℕ} (λ a b. a ++ b) (roles-text (getD s 2 0) (drop 4 s)) (groups-text (getD s 3 0) (drop (4 + 3 * getD s 2 0) s))
+    (ap (λ (x : List ℕ). linesText (map lineOfRole (rolesOf s)) ++ x) (groups-text (getD s 3 0) (drop (groupsStart s) s))
     ∙ sym (written-append textForm (map lineOfRole (predOf s .roles)) (map lineOfGroup (predOf s .groups))))
 
--- `r` and `g` are its numbers of roles and groups, and `i` and `j` the same as indices
-pub pred-is : (t : List ℕ) (p : ℕ) {o o₁ o₂ o₃ : List ℕ} {at a b c r g i j : ℕ} → r ≡ getD (drop p t) 2 0 → g ≡ getD (drop p t) 3 0
-    → i ≡ r → j ≡ g → Wrote o at (keyed (bytes "pred=") (numbersFrom (drop p t) 0 4)) o₁ a
-    → Wrote o₁ a (keyedLines (bytes "role=") 3 i (drop (p + 4) t)) o₂ b
-    → Wrote o₂ b (keyedLines (bytes "freq=") 2 j (drop (p + (4 + 3 * i)) t)) o₃ c
+-- `r` and `g` are its numbers of roles and groups, `j` the second as an index; its roles start at `q`, its groups at `e`
+pub pred-is : (t : List ℕ) (p : ℕ) {o o₁ o₂ o₃ : List ℕ} {at a b c r g j q e : ℕ} → r ≡ getD (drop p t) 2 0 → g ≡ getD (drop p t) 3 0
+    → j ≡ g → q ≡ p + rolesStart → e ≡ p + groupsStart (drop p t) → Wrote o at (keyed (bytes "pred=") (numbersFrom (drop p t) 0 4)) o₁ a
+    → Wrote o₁ a (linesText (map lineOfRole (rolesIn r (drop q t)))) o₂ b → Wrote o₂ b (keyedLines (bytes "freq=") 2 j (drop e t)) o₃ c
     → Wrote o at (linesText (linesOfPred (predOf (drop p t)))) o₃ c
-pred-is t p er eg ei ej w₁ w₂ w₃ =
+pred-is t p er eg ej eq ee w₁ w₂ w₃ =
     let s : List ℕ = drop p t in
-    wrote-as (wrote-then w₁ (wrote-then w₂ w₃)) (rw (ej, eg, ei, er, ← drop-drop 4 p t, ← drop-drop (4 + 3 * getD s 2 0) p t) (pred-text s))
+    wrote-as (wrote-then w₁ (wrote-then w₂ w₃))
+    (rw (roles-here t p er eq, ej, eg, ee, ← drop-drop (groupsStart s) p t) (pred-text s))
 
 module _ (t : List ℕ) where
   pub preds-start : (o : List ℕ) (at : ℕ) {p n : ℕ} → p ≡ firstPredAt t → n ≡ predCount t

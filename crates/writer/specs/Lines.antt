@@ -1,9 +1,10 @@
 -- Words for what single functions write, and for what they are told of a table.
 use Prim.Native.Nat.{ℕ}
 use mathlib.Core.Path.{_≡_}
-use mathlib.Core.List.{List, _∷_, map, flatMap}
+use mathlib.Core.List.{List, [], _∷_, map, flatMap}
 use lib.ListN.{length}
-use Rattle.orm.specs.Diagram.{Predicate, Diagram, Line, diagramLine, typesLine, lineOfCount, lineOfType, linesOfPred, allRoles}
+use Rattle.orm.specs.Diagram.{Predicate, Diagram, Line, diagramLine, typesLine, lineOfCount, lineOfType, lineOfRole, linesOfPred, allRoles}
+use Rattle.orm.specs.Form.{roleOf}
 use Rattle.reading.specs.Exact.{written}
 use Rattle.reading.specs.Cutting.{textForm}
 use Rattle.table.specs.Positions.{diagramOf}
@@ -12,6 +13,10 @@ use Rattle.table.specs.Valid.{Valid}
 -- The text of some lines
 abbrev pub linesText : List Line → List ℕ
 linesText ls = written textForm ls
+
+-- The line of the role that stands here
+abbrev pub roleText : List ℕ → List ℕ
+roleText s = linesText (lineOfRole (roleOf s) ∷ [])
 
 -- The lines up to the last type's
 unfoldable pub linesToTypes : Diagram → List Line

@@ -3,21 +3,48 @@
 // Where the lent text has room for every diagram, it is written at once. Elsewhere the length is found
 // out first, so that a call whose text is too short writes nothing. The functions below write from the
 // index `at` on and answer the index behind what they wrote.
+use lexer::lines::ROLE_FIELDS;
 use reader::Conversion;
+use widening::Acceptance;
 ghost use mathlib.Core.Path.{_≡_};
-ghost use Prim.Native.Nat.{_+_, _≤_};
+ghost use mathlib.Core.List.{map};
+ghost use Prim.Native.Nat.{_+_, _*_, _≤_};
 ghost use lib.ListN.{length, drop};
-ghost use Rattle.orm.specs.Diagram.{linesOfPred};
+ghost use Rattle.orm.specs.Diagram.{lineOfRole, linesOfPred};
 ghost use Rattle.orm.specs.Text.{render};
-ghost use Rattle.orm.specs.Outcome.{lengthOf, bufferAfter};
+ghost use Rattle.orm.specs.Outcome.{lengthOf, fitted, bufferAfter};
+ghost use Rattle.reading.specs.WideTable.{mostNumbers};
 ghost use Rattle.orm.specs.Calls.{writeCall};
 ghost use Rattle.buffer.specs.Written.{Wrote};
-ghost use Rattle.table.specs.Positions.{predOf, predLength, diagramOf, Walkable};
+ghost use Rattle.table.specs.Positions.{roleWidth, rolesIn, predOf, predLength, diagramOf, Walkable};
 ghost use Rattle.reader.specs.Answer.{conversionOf};
-ghost use Rattle.writer.specs.Lines.{linesText, linesToTypes, predLines, Counted};
+ghost use Rattle.writer.specs.Lines.{linesText, roleText, linesToTypes, predLines, Counted};
 
 // No diagram has a longer text.
 const MOST_TEXT: usize = 3603;
+
+// The line of the role at position q, with the numbers that the file has.
+fn push_role(t: &[u32], q: usize, out: &mut [u8], at: usize) -> usize
+    ensures { λ r. ⌜ Wrote (now (out .entry)) at (roleText (drop q (now (t .entry)))) (now (out .exit)) r ⌝ }
+{
+    numerals::push_line(out, at, b"role=", t, q, ROLE_FIELDS)
+}
+
+// The lines of the `count` roles from position q on.
+fn push_roles(t: &[u32], q: usize, count: u32, out: &mut [u8], at: usize) -> usize
+    requires { ⌜ q + roleWidth * count ≤ length (now t) ⌝ }
+    ensures { λ r. ⌜ Wrote (now (out .entry)) at (linesText (map lineOfRole (rolesIn count (drop q (now (t .entry)))))) (now (out .exit)) r ⌝ }
+{
+    let mut left = count;
+    let mut p = q;
+    let mut to = at;
+    while 0 < left {
+        to = push_role(t, p, out, to);
+        p += table::ROLE_WIDTH;
+        left -= 1;
+    }
+    to
+}
 
 // The lines of the predicate that starts at p.
 fn push_pred(t: &[u32], p: usize, out: &mut [u8], at: usize) -> usize
@@ -25,11 +52,11 @@ fn push_pred(t: &[u32], p: usize, out: &mut [u8], at: usize) -> usize
     requires { ⌜ p + predLength (drop p (now t)) ≤ length (now t) ⌝ }
     ensures { λ r. ⌜ Wrote (now (out .entry)) at (linesText (linesOfPred (predOf (drop p (now (t .entry)))))) (now (out .exit)) r ⌝ }
 {
-    let roles = table::index(table::number(t, p, 2));
+    let roles = table::number(t, p, 2);
     let groups = table::index(table::number(t, p, 3));
-    let first_group = p + (4 + 3 * roles);
+    let first_group = table::groups_at(t, p);
     let a = numerals::push_line(out, at, b"pred=", t, p, 4);
-    let b = numerals::push_lines(out, a, b"role=", t, p + 4, 3, roles);
+    let b = push_roles(t, table::roles_at(t, p), roles, out, a);
     numerals::push_lines(out, b, b"freq=", t, first_group, 2, groups)
 }
 
@@ -83,28 +110,46 @@ fn text_length(t: &[u32], types: usize, preds: usize, roles: usize) -> usize
     push_text(t, types, preds, roles, &mut bytes)
 }
 
+// Writes the text of a valid table's diagram, which has so many types, predicates and roles.
+fn write_valid(t: &[u32], types: usize, preds: usize, roles: usize, text: &mut [u8]) -> Conversion
+    requires { ⌜ Counted (now t) types preds roles ⌝ }
+    ensures { λ r. ⌜ conversionOf r ≡ lengthOf (fitted (length (now (text .entry))) (render (diagramOf (now (t .entry))))) ⌝ }
+    ensures { λ _. ⌜ now (text .exit) ≡ bufferAfter (fitted (length (now (text .entry))) (render (diagramOf (now (t .entry))))) (now (text .entry)) ⌝ }
+{
+    if text.len() < MOST_TEXT {
+        let needed = text_length(t, types, preds, roles);
+        if text.len() < needed {
+            return Conversion::TooShort { needed };
+        }
+    }
+    let length = push_text(t, types, preds, roles, text);
+    Conversion::Accepted { length }
+}
+
+// Writes the text of any table's diagram; `wide` is scratch.
+fn write_table(table: &[u32], wide: &mut [u32], text: &mut [u8]) -> Conversion
+    requires { ⌜ length (now wide) ≡ mostNumbers ⌝ }
+    ensures { λ r. ⌜ conversionOf r ≡ lengthOf (writeCall (now (table .entry)) (length (now (text .entry)))) ⌝ }
+    ensures { λ _. ⌜ now (text .exit) ≡ bufferAfter (writeCall (now (table .entry)) (length (now (text .entry)))) (now (text .entry)) ⌝ }
+{
+    let acceptance = widening::accept(table, wide);
+    match acceptance {
+        Acceptance::Refused { fault, line } => Conversion::Refused { fault, line },
+        Acceptance::Widened {
+            length,
+            types,
+            preds,
+            roles,
+            groups: _,
+        } => write_valid(&wide[..length], types, preds, roles, text),
+    }
+}
+
 // Writes the text of a diagram from its table.
 pub fn write(table: &[u32], text: &mut [u8]) -> Conversion
     ensures { λ r. ⌜ conversionOf r ≡ lengthOf (writeCall (now (table .entry)) (length (now (text .entry)))) ⌝ }
     ensures { λ _. ⌜ now (text .exit) ≡ bufferAfter (writeCall (now (table .entry)) (length (now (text .entry)))) (now (text .entry)) ⌝ }
 {
-    let form = reader::form(table);
-    match form {
-        reader::FormAnswer::Refused { fault, line } => Conversion::Refused { fault, line },
-        reader::FormAnswer::Accepted {
-            types,
-            preds,
-            roles,
-            groups: _,
-        } => {
-            if text.len() < MOST_TEXT {
-                let needed = text_length(table, types, preds, roles);
-                if text.len() < needed {
-                    return Conversion::TooShort { needed };
-                }
-            }
-            let length = push_text(table, types, preds, roles, text);
-            Conversion::Accepted { length }
-        }
-    }
+    let mut wide = widening::scratch();
+    write_table(table, &mut wide, text)
 }

@@ -1,6 +1,6 @@
 -- `bounds::check_in` meets its contract. What is lent has room for what is prepared.
 -- Assumes nothing.
-use Rattle.bounds.proofs.Tables.{front-count, space-roomy, limits-within, lower-within, upper-within, next-within, check-bounds, check-scratch, checked}
+use Rattle.bounds.proofs.Tables.{front-count, space-roomy, limits-within, lower-within, upper-within, next-within, check-bounds, check-scratch, check-is}
 use borrow.Author.Needs.{needs}
 use Rattle.bounds.proofs.check_in.Statement.{statement}
 use Rattle.bounds.proofs.check_in.Tie as tie
@@ -11,7 +11,7 @@ returns c =
     let ended = c .before .before .before .before .before .before .before .before .before .before in
     let made = ended .before .before .before .before .before .before .before .before .before .before .before .before .before .before .before .before in
     let pre = made .before .before .before .before .before .before .before .before .before .before .before .before .before .pre in
-    checked (pre .1) (made .prepare .ensures) (pre .0) (ended .settle .ensures)
+    check-is (pre .1) (made .prepare .ensures) (pre .0) (ended .settle .ensures)
 
 pub check-in-spec : {M : Type 1} → statement M
 check-in-spec =

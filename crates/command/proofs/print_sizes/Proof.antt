@@ -1,6 +1,7 @@
 -- `command::print_sizes` meets its contract. What the check promises decides what is printed.
 -- Assumes nothing.
-use Rattle.command.proofs.Prints.{check-refused, sizes-within, sizes-count, check-settled}
+use Rattle.bounds.specs.Laws.Ends.{sizes-within, sizes-count, sizes-settled}
+use Rattle.command.proofs.Prints.{check-refused}
 use borrow.Author.Needs.{needs}
 use Rattle.command.proofs.print_sizes.Statement.{statement}
 use Rattle.command.proofs.print_sizes.Tie as tie
@@ -17,7 +18,7 @@ print-sizes-spec =
     (λ c. search (needs, check-refused))
     (λ c. search (needs, sizes-within))
     (λ c. search (needs, sizes-count))
-    (λ c κs. search (needs, check-settled))
+    (λ c κs. search (needs, sizes-settled))
     (λ c. search needs)
     (λ c. search needs)
     (λ c. search needs)

@@ -1,6 +1,6 @@
 -- `command::print_text` meets its contract. What reading promises decides what is printed.
 -- Assumes nothing.
-use Rattle.command.proofs.Prints.{read-faulty, read-short, table-read, table-within, table-count, read-printed}
+use Rattle.command.proofs.Prints.{read-faulty, read-short, table-within, table-count, read-printed}
 use borrow.Author.Needs.{needs}
 use Rattle.command.proofs.print_text.Statement.{statement}
 use Rattle.command.proofs.print_text.Tie as tie
@@ -18,13 +18,14 @@ print-text-spec =
     (λ c. search needs)
     (λ c. search (needs, table-within))
     (λ c. search (needs, table-count))
-    (λ c κs. search (needs, table-read))
+    (λ c κs. search needs)
     (λ c. search needs)
     (λ c. search needs)
     (λ c. search (needs, read-faulty))
     (λ c. search needs)
     (λ c. search needs)
     (λ c. search (needs, read-short))
+    (λ c. search needs)
     (λ c. search needs)
     (λ c. search needs)
     (λ c. search (needs, read-printed)))

@@ -16,8 +16,7 @@ use Rattle.orm.specs.Calls.{diagramIn, sizesBy, sizesOf, readCall}
 use Rattle.orm.specs.Program.{report, output, reported, program}
 use Rattle.reading.specs.Laws.{fits, does-not-fit, accepted-or-fault}
 use Rattle.guarantee.specs.Proof.{guarantee}
-use Rattle.populate.specs.Demand3.{TableOf, TextOf}
-use Rattle.populate.specs.Tied.{table-accepted}
+use Rattle.populate.specs.Demand3.{TextOf}
 use Rattle.command.specs.Reports.{refusalLine, reportOn, textReport, tableReport}
 
 -- ---- of a diagram, by the verdict of the rounds
@@ -42,13 +41,6 @@ module _ (d : Diagram) where
     pub large-report : 16000 < length (cells (population d c)) → output (reportOn d) ≡ refusalLine 8 (length (cells (population d c))) 0
     unfolding output refusalLine
     large-report h = settled-so ∙ ap ended (does-not-fit 16000 (cells (population d c)) h)
-
--- ---- of the table of a well-formed diagram
-
-module _ {t : List ℕ} (x : TableOf t) where
-  pub table-report : tableReport t ≡ output (reportOn (x .diagram))
-  unfolding tableReport
-  table-report = ap (λ (o : Outcome Diagram). output (o >>= reportOn)) (table-accepted x)
 
 -- ---- of a text
 

@@ -4,7 +4,7 @@ use Prim.Native.Nat.{_+_, _*_, _≤_}
 use mathlib.Core.Path.{_≡_}
 use lib.ListN.{length, drop}
 use Rattle.orm.specs.Sets.{rolesInGroup}
-use Rattle.table.specs.Positions.{predOf}
+use Rattle.table.specs.Positions.{roleWidth, predOf}
 use Rattle.constraints.proofs.Groups.{ColumnsLeft, columns-start, columns-none, columns-more}
 use borrow.Author.Needs.{needs}
 use Rattle.constraints.proofs.group_columns.Statement.{statement}
@@ -15,7 +15,7 @@ Inv-loop t pred g out₀ role₀ j₀ left₀ n₀ out role j left n =
     (length out ≡ 6)
     × (n ≤ j)
     × (j + left ≤ 6)
-    × (role + 3 * left ≤ length t)
+    × (role + roleWidth * left ≤ length t)
     × ColumnsLeft t g (rolesInGroup g 0 (predOf (drop pred t) .roles)) role j left n out
 
 abbrev μ-loop : tie.MeasureT-loop
@@ -27,7 +27,7 @@ group-columns-spec =
     (tie.spec
     Inv-loop
     μ-loop
-    (λ c. search needs)
+    (λ c κs. search needs)
     (λ c κs. search needs)
     (λ c. search (needs, columns-start))
     (λ c κs. (search needs, search needs))

@@ -26,16 +26,13 @@ groups-keep-spec =
     Inv-loop
     μ-loop
     (λ c κs. search needs)
-    (λ c. search needs)
-    (λ c. search needs)
-    (λ c. search needs)
     (λ c κs. search needs)
-    (λ c. (search needs, search needs, search (needs, groups-start)))
+    (λ c. search (needs, groups-start))
     (λ c κs. search needs)
     (λ c. search (needs, groups-not))
     (λ c. search needs)
     (λ c. search needs)
     (λ c. search needs)
     (λ c. search needs)
-    (λ c. (search needs, search needs, search (needs, groups-more)))
+    (λ c. search (needs, groups-more))
     (λ c. search (needs, groups-none)))

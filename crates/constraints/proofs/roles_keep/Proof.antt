@@ -3,7 +3,7 @@
 use Prim.Native.Nat.{_+_, _*_, _≤_}
 use mathlib.Core.Path.{_≡_}
 use lib.ListN.{length, drop}
-use Rattle.table.specs.Positions.{predOf}
+use Rattle.table.specs.Positions.{roleWidth, predOf}
 use Rattle.blocks.specs.Blocks.{predWidth, rowsAt}
 use Rattle.blocks.specs.Standing.{column-reached}
 use Rattle.constraints.specs.Tests.{rolesTest}
@@ -16,7 +16,7 @@ use Rattle.constraints.proofs.roles_keep.Tie as tie
 abbrev Inv-loop : tie.InvT-loop
 Inv-loop k t cells pred at w role₀ j₀ left₀ role j left =
     (j + left ≡ w)
-    × (role + 3 * left ≤ length t)
+    × (role + roleWidth * left ≤ length t)
     × RolesLeft k t cells (populationOf t cells) (predWidth (predOf (drop pred t))) at (rolesTest k (populationOf t cells) 0 (predOf (drop pred t) .roles) (rowsAt (predWidth (predOf (drop pred t))) (drop at cells))) role j left
 
 abbrev μ-loop : tie.MeasureT-loop
@@ -29,7 +29,7 @@ roles-keep-spec =
     Inv-loop
     μ-loop
     (λ c κs. search needs)
-    (λ c. search needs)
+    (λ c κs. search needs)
     (λ c. search (needs, roles-begin))
     (λ c κs. search needs)
     (λ c κs. search (needs, column-reached))

@@ -7,7 +7,7 @@ use mathlib.Core.Bool.{Bool, true, false, not}
 use mathlib.Core.List.{List, [], _∷_, _++_, map, flatMap, flatten, List·Memᴰ·head as here, List·Memᴰ·tail as there}
 use lib.ListN.{length, length-append, length-map}
 use Rattle.orm.specs.Diagram.{ObjectType, Role, Frequency, Predicate, Diagram, isRoot, mustPlay, isMandatory, isGrouped, index}
-use Rattle.orm.specs.Diagram.{allRoles, allGroups, table}
+use Rattle.orm.specs.Diagram.{allRoles, allGroups}
 use Rattle.counting.specs.Lists.{upFrom, mapFrom}
 use Rattle.fixpoint.specs.Limits.{Limit, product, sum}
 use Rattle.counting.specs.Terms.{Each}
@@ -19,7 +19,8 @@ use Rattle.orm.specs.Sets.{placedFrom, placed, groupSet, groupRoles, Part, grou
 use Rattle.orm.specs.Sets.{limitsOfGroup, limitOfRows, limitsOfPred, limitsOfType, limits}
 use Rattle.lowering.specs.Encoding.{encodeExpr, encode}
 use Rattle.lowering.specs.Laws.Decoding.{encode-append}
-use Rattle.table.specs.Laws.TableOf.{table-length}
+use Rattle.reading.specs.WideTable.{wideTable}
+use Rattle.reading.specs.TableLength.{wide-length}
 
 abbrev size : List Limit → ℕ
 size ls = length (encode ls)
@@ -189,5 +190,5 @@ module _ (d : Diagram) (w : WellFormed d) where
   limits-fit = omega (arith, limits-size, w .typeCount .1, w .predCount .1, w .roleCount, w .groupCount)
 
   -- of one with a table of at most 64 numbers
-  pub few-limits-fit : length (table d) ≤ 64 → length (encode (limits d)) ≤ 600
-  few-limits-fit h = omega (arith, limits-size, table-length d)
+  pub few-limits-fit : length (wideTable d) ≤ 64 → length (encode (limits d)) ≤ 600
+  few-limits-fit h = omega (arith, limits-size, wide-length d)

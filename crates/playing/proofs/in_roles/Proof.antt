@@ -3,7 +3,7 @@
 use Prim.Native.Nat.{_+_, _*_, _≤_}
 use mathlib.Core.Path.{_≡_}
 use lib.ListN.{length, drop}
-use Rattle.table.specs.Positions.{predOf}
+use Rattle.table.specs.Positions.{roleWidth, predOf}
 use Rattle.blocks.specs.Blocks.{predWidth, rowsAt}
 use Rattle.blocks.specs.Standing.{column-reached}
 use Rattle.playing.specs.Playing.{inRoles}
@@ -15,7 +15,7 @@ use Rattle.playing.proofs.in_roles.Tie as tie
 abbrev Inv-loop : tie.InvT-loop
 Inv-loop t cells x number pred at w role₀ j₀ left₀ role j left =
     (j + left ≡ w)
-    × (role + 3 * left ≤ length t)
+    × (role + roleWidth * left ≤ length t)
     × InRolesLeft t cells x number (predWidth (predOf (drop pred t))) at (inRoles x number 0 (predOf (drop pred t) .roles) (rowsAt (predWidth (predOf (drop pred t))) (drop at cells))) role j left
 
 abbrev μ-loop : tie.MeasureT-loop
@@ -28,7 +28,7 @@ in-roles-spec =
     Inv-loop
     μ-loop
     (λ c κs. search needs)
-    (λ c. search needs)
+    (λ c κs. search needs)
     (λ c. search (needs, in-roles-start))
     (λ c κs. search needs)
     (λ c κs. search (needs, column-reached))

@@ -3,6 +3,7 @@
 use Prim.Native.Nat.{_+_, _*_, _≤_}
 use mathlib.Core.Path.{_≡_}
 use lib.ListN.{length}
+use Rattle.table.specs.Positions.{roleWidth}
 use Rattle.columns.specs.Values.{valuesIn}
 use Rattle.blocks.specs.Standing.{column-reached}
 use Rattle.playing.specs.Marks.{Markable}
@@ -14,7 +15,7 @@ use Rattle.playing.proofs.mark_roles.Tie as tie
 abbrev Inv-loop : tie.InvT-loop
 Inv-loop t cells number pred at members list marks₀ w role₀ j₀ left₀ marks role j left =
     (j + left ≡ w)
-    × (role + 3 * left ≤ length t)
+    × (role + roleWidth * left ≤ length t)
     × Markable cells members list marks
     × RolesLeft (valuesIn cells members) marks₀ marks t cells number pred at role j left
 
@@ -28,7 +29,7 @@ mark-roles-spec =
     Inv-loop
     μ-loop
     (λ c κs. search needs)
-    (λ c. search needs)
+    (λ c κs. search needs)
     (λ c. search (needs, roles-start))
     (λ c κs. search needs)
     (λ c κs. search (needs, column-reached))

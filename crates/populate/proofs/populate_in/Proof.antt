@@ -1,6 +1,7 @@
 -- `populate::populate_in` meets its contract. What the check promises decides the answer.
 -- Assumes nothing.
-use Rattle.populate.proofs.Answers.{refused-on, sizes-within, sizes-count, sizes-settled}
+use Rattle.bounds.specs.Laws.Ends.{sizes-within, sizes-count, sizes-settled}
+use Rattle.populate.proofs.Answers.{refused-on}
 use borrow.Author.Needs.{needs}
 use Rattle.populate.proofs.populate_in.Statement.{statement}
 use Rattle.populate.proofs.populate_in.Tie as tie

@@ -1,4 +1,4 @@
--- `selection::count_in_group` meets its contract. The roles of the predicate start four numbers behind it.
+-- `selection::count_in_group` meets its contract. The roles of the predicate stand behind its line.
 -- Assumes nothing.
 use Rattle.selection.specs.Laws.Selects.{in-group-count}
 use borrow.Author.Needs.{needs}
@@ -10,6 +10,6 @@ count-in-group-spec =
     tie.close
     (tie.spec
     (λ c κs. search needs)
-    (λ c. search needs)
+    (λ c κs. search needs)
     (λ c κs. search needs)
     (λ c. search (needs, in-group-count)))

@@ -4,7 +4,7 @@ use Prim.Native.Nat.{_+_, _*_, _≤_}
 use mathlib.Core.Path.{_≡_}
 use lib.ListN.{length, drop}
 use Rattle.orm.specs.Sets.{rolesInGroup}
-use Rattle.table.specs.Positions.{rolesIn}
+use Rattle.table.specs.Positions.{roleWidth, rolesIn}
 use Rattle.selection.specs.Laws.Selects.{grouped-start, grouped-more, grouped-all}
 use borrow.Author.Needs.{needs}
 use Rattle.selection.proofs.count_roles.Statement.{statement}
@@ -12,7 +12,7 @@ use Rattle.selection.proofs.count_roles.Tie as tie
 
 abbrev Inv-loop : tie.InvT-loop
 Inv-loop t q count number left₀ p₀ n₀ left p n =
-    (p + 3 * left ≤ length t) × (n + left ≤ count)
+    (p + roleWidth * left ≤ length t) × (n + left ≤ count)
     × (n + length (rolesInGroup number 0 (rolesIn left (drop p t))) ≡ length (rolesInGroup number 0 (rolesIn count (drop q t))))
 
 abbrev μ-loop : tie.MeasureT-loop

@@ -1,4 +1,4 @@
--- `selection::push_in_group` meets its contract. The roles of the predicate start four numbers behind it.
+-- `selection::push_in_group` meets its contract. The roles of the predicate stand behind its line.
 -- Assumes nothing.
 use Rattle.selection.specs.Laws.Selects.{in-group-is}
 use borrow.Author.Needs.{needs}
@@ -10,7 +10,7 @@ push-in-group-spec =
     tie.close
     (tie.spec
     (λ c κs. search needs)
-    (λ c. search needs)
+    (λ c κs. search needs)
     (λ c κs. search needs)
     (λ c. search needs)
     (λ c. search (needs, in-group-is)))

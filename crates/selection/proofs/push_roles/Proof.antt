@@ -3,7 +3,7 @@
 use Prim.Native.Nat.{_+_, _*_, _≤_, _<_}
 use lib.ListN.{length, drop}
 use Rattle.orm.specs.Sets.{rolesInGroup}
-use Rattle.table.specs.Positions.{rolesIn}
+use Rattle.table.specs.Positions.{roleWidth, rolesIn}
 use Rattle.buffer.specs.Written.{Writing}
 use Rattle.buffer.specs.Laws.{writing-start, writing-more, writing-all, writing-long}
 use Rattle.selection.specs.Laws.Selects.{in-group-more, in-group-none}
@@ -13,7 +13,7 @@ use Rattle.selection.proofs.push_roles.Tie as tie
 
 abbrev Inv-loop : tie.InvT-loop
 Inv-loop t q count first number out₀ at left₀ p₀ set₀ to₀ out left p set to =
-    (p + 3 * left ≤ length t) × (set + left < 4294967296)
+    (p + roleWidth * left ≤ length t) × (set + left < 4294967296)
     × Writing out₀ at (rolesInGroup number first (rolesIn count (drop q t))) out to (rolesInGroup number set (rolesIn left (drop p t)))
 
 abbrev μ-loop : tie.MeasureT-loop

@@ -2,7 +2,7 @@
 -- Assumes nothing.
 use Prim.Native.Nat.{_+_, _*_, _≤_}
 use lib.ListN.{length, drop}
-use Rattle.table.specs.Positions.{rolesIn}
+use Rattle.table.specs.Positions.{roleWidth, rolesIn}
 use Rattle.buffer.specs.Written.{Writing}
 use Rattle.buffer.specs.Laws.{writing-start, writing-more, writing-all, writing-long}
 use Rattle.selection.specs.Selected.{typesOf}
@@ -12,7 +12,7 @@ use Rattle.selection.proofs.push_types.Statement.{statement}
 use Rattle.selection.proofs.push_types.Tie as tie
 
 abbrev Inv-loop : tie.InvT-loop
-Inv-loop t q count out₀ at left₀ p₀ to₀ out left p to = (p + 3 * left ≤ length t) × Writing out₀ at (typesOf (rolesIn count (drop q t))) out to (typesOf (rolesIn left (drop p t)))
+Inv-loop t q count out₀ at left₀ p₀ to₀ out left p to = (p + roleWidth * left ≤ length t) × Writing out₀ at (typesOf (rolesIn count (drop q t))) out to (typesOf (rolesIn left (drop p t)))
 
 abbrev μ-loop : tie.MeasureT-loop
 μ-loop t q count out₀ at left₀ p₀ to₀ out left p to = left

@@ -29,7 +29,7 @@ write-types-spec =
     (λ c κs. search needs)
     (λ c. search (needs, types-start, ahead-start))
     (λ c κs. search (needs, ahead-third))
-    (λ c. search (needs, ahead-here))
+    (λ c κs. search (needs, ahead-here))
     (λ c κs. search (needs, roles-inside))
     (λ c κs. search (needs, ahead-here))
     (λ c. search needs)

@@ -6,16 +6,15 @@ use mathlib.Core.Bool.{Bool, true, false, _||_}
 use mathlib.Core.List.{List, [], _∷_, _++_, flatMap, map-append}
 use lib.Dec.{ltb, eqb}
 use lib.ListN.{length, getD, drop}
-use lib.Seq.{drop-drop}
 use borrow.Author.Tests.{lt-ltb, ne-eqb}
 use Rattle.counting.specs.Lists.{when}
 use Rattle.counting.specs.Distinct.{member}
 use Rattle.counting.specs.Laws.Distinct.{member-append}
 use Rattle.counting.specs.Laws.Instances.{eqb-sym}
 use Rattle.orm.specs.Diagram.{Role, Predicate, allRoles, isRoot, isIndependent, plays, mustPlay}
-use Rattle.orm.specs.Form.{typeOf, roleOf}
-use Rattle.table.specs.Positions.{rolesIn, predsIn, predLength, predCount, firstPredAt, diagramOf}
-use Rattle.table.specs.Laws.Walks.{each-more, each-none, preds-more, preds-none}
+use Rattle.orm.specs.Form.{typeOf}
+use Rattle.table.specs.Positions.{roleWidth, rolesIn, rolesStart, rolesOf, predsIn, predLength, predCount, firstPredAt, diagramOf}
+use Rattle.table.specs.Laws.Walks.{role-more, role-none, roles-here, preds-more, preds-none}
 use Rattle.selection.specs.Selected.{typesOf, positions, Types}
 
 -- ---- the roles left come to the whole
@@ -23,17 +22,17 @@ use Rattle.selection.specs.Selected.{typesOf, positions, Types}
 module _ (t : List ℕ) (number q n : ℕ) {whole : Bool} (w : plays number (rolesIn n (drop q t)) ≡ whole) where
   pub plays-none : n ≤ 0 → false ≡ whole
   unfolding plays member
-  plays-none h = rw (each-none roleOf 3 n (drop q t) h) at w
+  plays-none h = rw (role-none n (drop q t) h) at w
 
   module _ {v : ℕ} {b : Bool} (h : 0 < n) (ev : v ≡ getD (drop q t) 0 0) (eb : b ≡ eqb number v) where
-    tested : (b || plays number (rolesIn (n - 1) (drop (q + 3) t))) ≡ whole
+    tested : (b || plays number (rolesIn (n - 1) (drop (q + roleWidth) t))) ≡ whole
     unfolding plays member
-    tested = rw (eb, ev) (rw (each-more roleOf 3 t q n h) at w)
+    tested = rw (eb, ev) (rw (role-more t q n h) at w)
 
     pub plays-here : b ≡ true → true ≡ whole
     plays-here e = rw e at tested
 
-    pub plays-more : b ≡ false → plays number (rolesIn (n - 1) (drop (q + 3) t)) ≡ whole
+    pub plays-more : b ≡ false → plays number (rolesIn (n - 1) (drop (q + roleWidth) t)) ≡ whole
     plays-more e = rw e at tested
 
 -- ---- the predicates left
@@ -55,15 +54,15 @@ module _ (t : List ℕ) (number q n : ℕ) {whole : Bool} (w : playsWithin numbe
   unfolding plays member flatMap
   within-none h = rw (preds-none n (drop q t) h) at w
 
-  module _ {r : ℕ} {b : Bool} (h : 0 < n) (er : r ≡ getD (drop q t) 2 0) (eb : b ≡ plays number (rolesIn r (drop (q + 4) t))) where
+  module _ {r roles : ℕ} {b : Bool} (h : 0 < n) (er : r ≡ getD (drop q t) 2 0) (ep : roles ≡ q + rolesStart)
+      (eb : b ≡ plays number (rolesIn r (drop roles t))) where
     played : {next : ℕ} → next ≡ q + predLength (drop q t) → (b || playsWithin number (predsIn (n - 1) (drop next t))) ≡ whole
     unfolding flatMap
     played {next} e =
-        let s : List ℕ = drop q t in
         let rest : List Predicate = predsIn (n - 1) (drop next t) in
-        let own : plays number (rolesIn (getD s 2 0) (drop 4 s)) ≡ b = rw (drop-drop 4 q t, ← er) (sym eb) in
-        ap (λ (x : Bool). x || playsWithin number rest) (sym own)
-        ∙ sym (plays-append number (rolesIn (getD s 2 0) (drop 4 s)) (flatMap (λ (p : Predicate). p .roles) rest))
+        let own : b ≡ plays number (rolesOf (drop q t)) = eb ∙ ap (plays number) (roles-here t q er ep) in
+        ap (λ (x : Bool). x || playsWithin number rest) own
+        ∙ sym (plays-append number (rolesOf (drop q t)) (flatMap (λ (p : Predicate). p .roles) rest))
         ∙ sym (ap (playsWithin number) (preds-more t q n h e))
         ∙ w
 

@@ -7,15 +7,15 @@ use mathlib.Core.Bool.{Bool, true, false}
 use mathlib.Core.List.{List, [], _∷_, _++_}
 use lib.Dec.{eqb}
 use lib.ListN.{length, getD, drop, length-append, drop-of-length-le}
-use lib.Seq.{drop-drop, drop-cons}
+use lib.Seq.{drop-cons}
 use Rattle.orm.specs.Diagram.{Role}
 use Rattle.orm.specs.Form.{roleOf}
 use Rattle.counting.specs.Lists.{when, upFrom}
 use Rattle.orm.specs.Sets.{select, rolesInGroup, groupRoles}
 use Rattle.buffer.specs.Written.{Wrote, Splits}
 use Rattle.buffer.specs.Laws.{wrote-as, wrote-none}
-use Rattle.table.specs.Positions.{rolesIn}
-use Rattle.table.specs.Laws.Walks.{each-more, each-none}
+use Rattle.table.specs.Positions.{roleWidth, rolesIn, rolesStart}
+use Rattle.table.specs.Laws.Walks.{role-more, role-none, roles-here}
 use Rattle.table.specs.Cursors.{placedAt}
 use Rattle.table.specs.declared.Cursor.{Cursor}
 use Rattle.selection.specs.Selected.{typesOf, positions}
@@ -48,11 +48,11 @@ up-none x (suc n) h = absurd (omega arith)
 
 module _ (t : List ℕ) (q n : ℕ) where
   pub types-more : {v : ℕ} → 0 < n → v ≡ getD (drop q t) 0 0
-      → Splits (typesOf (rolesIn n (drop q t))) (v ∷ []) (typesOf (rolesIn (n - 1) (drop (q + 3) t)))
-  types-more h e = record { is = ap typesOf (each-more roleOf 3 t q n h) ∙ rw e }
+      → Splits (typesOf (rolesIn n (drop q t))) (v ∷ []) (typesOf (rolesIn (n - 1) (drop (q + roleWidth) t)))
+  types-more h e = record { is = ap typesOf (role-more t q n h) ∙ rw e }
 
   pub types-none : n ≤ 0 → typesOf (rolesIn n (drop q t)) ≡ []
-  types-none h = ap typesOf (each-none roleOf 3 n (drop q t) h)
+  types-none h = ap typesOf (role-none n (drop q t) h)
 
 module _ (number : ℕ) where
   pub positions-select : (i : ℕ) (rs : List Role) → positions number i (typesOf rs) ≡ select (λ (r : Role). eqb (r .type) number) i rs
@@ -126,28 +126,28 @@ module _ (test : Role → Bool) where
 module _ (t : List ℕ) (q n number : ℕ) where
   pub in-group-more : (set : ℕ) {b : Bool} {v : ℕ} → 0 < n → v ≡ getD (drop q t) 2 0 → b ≡ eqb v number
       → Splits (rolesInGroup number set (rolesIn n (drop q t))) (when b set)
-      (rolesInGroup number (set + 1) (rolesIn (n - 1) (drop (q + 3) t)))
+      (rolesInGroup number (set + 1) (rolesIn (n - 1) (drop (q + roleWidth) t)))
   unfolding rolesInGroup
   in-group-more set h ev eb = record {
     is =
-        ap (rolesInGroup number set) (each-more roleOf 3 t q n h)
+        ap (rolesInGroup number set) (role-more t q n h)
         ∙ select-cons (λ (r : Role). eqb (r .group) number) set (roleOf (drop q t)) _
         ∙ rw (eb, ev, add-one);
   }
 
   pub in-group-none : (set : ℕ) → n ≤ 0 → rolesInGroup number set (rolesIn n (drop q t)) ≡ []
   unfolding rolesInGroup select
-  in-group-none set h = ap (rolesInGroup number set) (each-none roleOf 3 n (drop q t) h)
+  in-group-none set h = ap (rolesInGroup number set) (role-none n (drop q t) h)
 
   pub grouped-start : 0 + length (rolesInGroup number 0 (rolesIn n (drop q t))) ≡ length (rolesInGroup number 0 (rolesIn n (drop q t)))
   grouped-start = omega arith
 
   module _ (m : ℕ) {total : ℕ} (w : m + length (rolesInGroup number 0 (rolesIn n (drop q t))) ≡ total) where
     pub grouped-more : {b : Bool} {v m′ : ℕ} → 0 < n → v ≡ getD (drop q t) 2 0 → b ≡ eqb v number → m′ ≡ m + length (when b 0)
-        → m′ + length (rolesInGroup number 0 (rolesIn (n - 1) (drop (q + 3) t))) ≡ total
+        → m′ + length (rolesInGroup number 0 (rolesIn (n - 1) (drop (q + roleWidth) t))) ≡ total
     unfolding rolesInGroup
     grouped-more {b} h ev eb em =
-        let rest : List Role = rolesIn (n - 1) (drop (q + 3) t) in
+        let rest : List Role = rolesIn (n - 1) (drop (q + roleWidth) t) in
         omega (
           arith,
           ap length (in-group-more 0 h ev eb .is),
@@ -161,17 +161,18 @@ module _ (t : List ℕ) (q n number : ℕ) where
     grouped-all h = omega (arith, ap length (in-group-none 0 h), w)
 
 -- of the predicate at the cursor
-module _ (t : List ℕ) (x : Cursor) (number : ℕ) {n : ℕ} (en : n ≡ getD (drop (x .at) t) 2 0) where
-  in-group : (set : ℕ) → rolesInGroup number set (rolesIn n (drop (x .at + 4) t)) ≡ rolesInGroup number set (placedAt t x .predicate .roles)
+module _ (t : List ℕ) (x : Cursor) (number : ℕ) {n roles : ℕ} (en : n ≡ getD (drop (x .at) t) 2 0)
+    (er : roles ≡ x .at + rolesStart) where
+  in-group : (set : ℕ) → rolesInGroup number set (rolesIn n (drop roles t)) ≡ rolesInGroup number set (placedAt t x .predicate .roles)
   unfolding placedAt
-  in-group set = rw (en, ← drop-drop 4 (x .at) t)
+  in-group set = ap (rolesInGroup number set) (roles-here t (x .at) en er)
 
-  pub in-group-is : {o o′ : List ℕ} {at to : ℕ} → Wrote o at (rolesInGroup number (x .roles) (rolesIn n (drop (x .at + 4) t))) o′ to
+  pub in-group-is : {o o′ : List ℕ} {at to : ℕ} → Wrote o at (rolesInGroup number (x .roles) (rolesIn n (drop roles t))) o′ to
       → Wrote o at (groupRoles (placedAt t x) number) o′ to
   unfolding groupRoles placedAt
   in-group-is w = wrote-as w (in-group (x .roles))
 
-  pub in-group-count : {r : ℕ} → r ≡ length (rolesInGroup number 0 (rolesIn n (drop (x .at + 4) t)))
+  pub in-group-count : {r : ℕ} → r ≡ length (rolesInGroup number 0 (rolesIn n (drop roles t)))
       → r ≡ length (groupRoles (placedAt t x) number)
   unfolding groupRoles rolesInGroup placedAt
   in-group-count e =

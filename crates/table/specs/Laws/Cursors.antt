@@ -1,16 +1,16 @@
 -- The laws of a walk over the predicates that knows their sets.
-use Prim.Native.Nat.{ℕ, _+_, _*_, _-_, _≤_, _<_}
+use Prim.Native.Nat.{ℕ, _+_, _-_, _≤_, _<_}
 use native.Mathlib.Numerals.{add-one}
 use native.Mathlib.Omega.{arith}
 use mathlib.Core.Path.{_≡_, refl}
 use mathlib.Core.List.{List, [], _∷_}
 use lib.ListN.{length, getD, drop}
 use Rattle.orm.specs.Diagram.{allRoles, allGroups}
-use Rattle.orm.specs.Form.{typeOf, roleOf, groupOf}
+use Rattle.orm.specs.Form.{typeOf}
 use Rattle.orm.specs.Sets.{placedFrom, placed, firstPred, firstRole, firstGroup}
 use Rattle.table.specs.Positions.{typesIn, predsIn, predLength, typeCount, predCount, firstPredAt, diagramOf, Walkable}
 use Rattle.table.specs.Cursors.{placedAt, nextCursor, firstCursor, Reach, Here, placedLeft}
-use Rattle.table.specs.Laws.Walks.{each-length, preds-more, preds-none, preds-length, ahead-start, ahead-here, ahead-more}
+use Rattle.table.specs.Laws.Walks.{each-length, role-count, group-count, preds-more, preds-none, preds-length, ahead-start, ahead-here, ahead-more}
 use Rattle.table.specs.Laws.Walks.{roles-ahead, groups-ahead}
 use Rattle.table.specs.declared.Cursor.{Cursor}
 
@@ -46,8 +46,8 @@ module _ (t : List ℕ) (x : Cursor) (n : ℕ) where
         rw (
           e,
           preds-more t (x .at) n h refl,
-          each-length roleOf 3 (getD s 2 0) (drop 4 s),
-          each-length groupOf 2 (getD s 3 0) (drop (4 + 3 * getD s 2 0) s),
+          role-count s,
+          group-count s,
           add-one,
         )
 

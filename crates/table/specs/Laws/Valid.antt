@@ -5,22 +5,20 @@ use mathlib.Core.Path.{_≡_, refl, ap, subst⁻¹, _∙_}
 use mathlib.Core.List.{List, [], _∷_, _++_, map, flatMap, List·Memᴰ·head as here, List·Memᴰ·tail as there}
 use lib.ListN.{length, getD, drop}
 use Rattle.orm.specs.Diagram.{ObjectType, Role, Frequency, Predicate, Diagram, Line, lineOfType, lineOfRole, lineOfGroup, lineOfPred}
-use Rattle.orm.specs.Diagram.{linesOfPred, lineOfCount, allRoles, lines, table}
+use Rattle.orm.specs.Diagram.{linesOfPred, lineOfCount, allRoles, lines}
 use Rattle.orm.specs.Form.{typeOf}
 use Rattle.orm.specs.Sets.{upper}
-use Rattle.orm.specs.Text.{tableLine}
 use Rattle.counting.specs.Terms.{EachFrom}
 use Rattle.counting.specs.Terms.{Each}
-use Rattle.orm.specs.Outcome.{accepted}
-use Rattle.orm.specs.Calls.{diagramIn}
 use Rattle.orm.specs.WellFormed.{TypeForm, RoleForm, GroupForm, PredForm, WellFormed}
 use Rattle.reading.specs.TextLength.{first-small}
-use Rattle.reading.specs.Laws.{table-accepted-iff}
+use Rattle.reading.specs.WideTable.{added, wideLine, wideTable}
+use Rattle.reading.specs.TableLength.{wide-length}
 use Rattle.orm.specs.Laws.Bounds.{length-upper}
 use Rattle.table.specs.Valid.{Valid, Under}
 use Rattle.table.specs.Positions.{predsLength, typeCount, predCount, firstPredAt, diagramOf, Walkable}
 use Rattle.table.specs.Laws.Walks.{each-length, preds-length}
-use Rattle.table.specs.Laws.TableOf.{values, values-append, table-back, table-inside, table-length}
+use Rattle.table.specs.Laws.WideTable.{values, values-append, wide-back, wide-inside}
 
 pub under-nil : (b : ℕ) → Under b []
 under-nil b = record { at = λ k. omega arith }
@@ -45,15 +43,15 @@ small-nil : Small []
 unfolding values flatMap
 small-nil = under-nil 999999
 
-small-cons : (l : Line) (ls : List Line) → Under 999999 (l .values) → Small ls → Small (l ∷ ls)
+small-cons : (l : Line) (ls : List Line) → Under 999999 (wideLine l) → Small ls → Small (l ∷ ls)
 unfolding values flatMap
-small-cons l ls u v = under-append (l .values) (values ls) u v
+small-cons l ls u v = under-append (wideLine l) (values ls) u v
 
 small-append : (ls ks : List Line) → Small ls → Small ks → Small (ls ++ ks)
 small-append ls ks u v = rw values-append (under-append (values ls) (values ks) u v)
 
 module _ {A : Type 0} where
-  small-each : (lineOf : A → Line) (xs : List A) → Each (λ (a : A). Under 999999 (lineOf a .values)) xs → Small (map lineOf xs)
+  small-each : (lineOf : A → Line) (xs : List A) → Each (λ (a : A). Under 999999 (wideLine (lineOf a))) xs → Small (map lineOf xs)
   small-each lineOf [] h = small-nil
   small-each lineOf (x ∷ xs) h = small-cons (lineOf x) (map lineOf xs) (h x (here refl)) (small-each lineOf xs (λ a m. h a (there m)))
 
@@ -71,8 +69,8 @@ each-of P Q f n (x ∷ xs) h a (there m) = each-of P Q f (suc n) xs (h .1) a m
 
 -- ---- the lines of a well-formed diagram
 
-type-small : (us : List ObjectType) (n : ℕ) (t : ObjectType) → n ≤ 999999 → TypeForm us n t → Under 999999 (lineOfType t .values)
-unfolding lineOfType
+type-small : (us : List ObjectType) (n : ℕ) (t : ObjectType) → n ≤ 999999 → TypeForm us n t → Under 999999 (wideLine (lineOfType t))
+unfolding lineOfType added
 type-small us n t h f =
     under-cons (omega (arith, f .sizes, f .most))
     (under-cons (omega (arith, f .most))
@@ -87,17 +85,19 @@ types-small us n (t ∷ ts) h f =
     small-cons (lineOfType t) (map lineOfType ts) (type-small us n t (omega arith) (f .0)) (types-small us (suc n) ts (omega arith) (f .1))
 
 role-small : (types groups : ℕ) (r : Role) → types ≤ 999999 → groups ≤ 999999 → RoleForm types groups r
-    → Under 999999 (lineOfRole r .values)
-unfolding lineOfRole
+    → Under 999999 (wideLine (lineOfRole r))
+unfolding lineOfRole added
 role-small types groups r h k f =
-    under-cons (omega (arith, f .player .1)) (under-cons (omega (arith, f .mand)) (under-cons (omega (arith, f .group)) (under-nil 999999)))
+    under-cons (omega (arith, f .player .1))
+    (under-cons (omega (arith, f .mand))
+    (under-cons (omega (arith, f .group)) (under-cons (omega arith) (under-cons (omega arith) (under-nil 999999)))))
 
-group-small : (rs : List Role) (n : ℕ) (g : Frequency) → GroupForm rs n g → Under 999999 (lineOfGroup g .values)
-unfolding lineOfGroup
+group-small : (rs : List Role) (n : ℕ) (g : Frequency) → GroupForm rs n g → Under 999999 (wideLine (lineOfGroup g))
+unfolding lineOfGroup added
 group-small rs n g f = under-cons (omega (arith, f .counts, f .most)) (under-cons (omega (arith, f .most)) (under-nil 999999))
 
 pred-small : (types : ℕ) (p : Predicate) → types ≤ 999999 → PredForm types p → Small (linesOfPred p)
-unfolding linesOfPred lineOfPred
+unfolding linesOfPred lineOfPred added
 pred-small types p h f =
     let few : length (p .groups) ≤ 999999 = omega (arith, f .few) in
     small-append (lineOfPred p ∷ map lineOfRole (p .roles)) (map lineOfGroup (p .groups))
@@ -111,9 +111,9 @@ count-small : (n : ℕ) → n ≤ 999999 → Under 999999 (n ∷ [])
 count-small n h = under-cons h (under-nil 999999)
 
 module _ (d : Diagram) (w : WellFormed d) where
-  table-small : Under 999999 (table d)
-  unfolding table lines lineOfCount values
-  table-small =
+  wide-small : Under 999999 (wideTable d)
+  unfolding wideTable lines lineOfCount values added
+  wide-small =
       let few : length (d .types) ≤ 999999 = omega (arith, w .typeCount .1) in
       small-append _ _
       (small-append _ _
@@ -123,12 +123,11 @@ module _ (d : Diagram) (w : WellFormed d) where
       (small-flat linesOfPred (d .preds) (λ p m. pred-small (length (d .types)) p few (w .preds p m)))))
       (small-cons _ _ (count-small (length (allRoles d)) (omega (arith, w .roleCount))) small-nil)
 
--- Every accepted table is valid
-pub accepted-valid : (t : List ℕ) (d : Diagram) → diagramIn tableLine t ≡ accepted d → Valid t
-accepted-valid t d e =
-    let a = table-accepted-iff t d .0 e in
-    let same-d : diagramOf t ≡ d = ap diagramOf (a .0) ∙ table-back d in
-    record { reads = rw same-d e; formed = rw same-d (a .1) }
+-- The table of a well-formed diagram is valid
+pub wide-valid : {t : List ℕ} {d : Diagram} → t ≡ wideTable d → WellFormed d → Valid t
+wide-valid {t} {d} e w =
+    let same-d : diagramOf t ≡ d = ap diagramOf e ∙ wide-back d in
+    record { is = rw same-d e; formed = rw same-d w }
 
 abbrev Inside : List ℕ → Type 0
 Inside t = firstPredAt t + predsLength (predCount t) (drop (firstPredAt t) t) ≤ length t
@@ -139,17 +138,14 @@ valid-walkable {t} v =
     let types : length (diagramOf t .types) ≡ typeCount t = each-length typeOf 6 (typeCount t) (drop 2 t) in
     let preds : length (diagramOf t .preds) ≡ predCount t = preds-length (predCount t) (drop (firstPredAt t) t) in
     record {
-      small = subst⁻¹ (Under 999999) (table-accepted-iff t (diagramOf t) .0 (v .reads) .0) (table-small (diagramOf t) (v .formed)) .at;
+      small = subst⁻¹ (Under 999999) (v .is) (wide-small (diagramOf t) (v .formed)) .at;
       few-types = omega (arith, types, v .formed .typeCount .1);
       few-preds = omega (arith, preds, v .formed .predCount .1);
       few-roles = v .formed .roleCount;
       few-groups = v .formed .groupCount;
-      whole = subst⁻¹ Inside (table-accepted-iff t (diagramOf t) .0 (v .reads) .0) (table-inside (diagramOf t));
+      whole = subst⁻¹ Inside (v .is) (wide-inside (diagramOf t));
     }
 
--- types, predicates, roles and groups
--- A valid table has more than twice as many numbers as its diagram has sets
+-- A valid table has more than twice as many numbers as its diagram has sets: types, predicates, roles and groups
 pub sets-few : (t : List ℕ) → Valid t → 2 * length (upper (diagramOf t)) + 4 ≤ length t
-sets-few t v =
-    let whole : length t ≡ length (table (diagramOf t)) = ap length (table-accepted-iff t (diagramOf t) .0 (v .reads) .0) in
-    omega (arith, whole, table-length (diagramOf t), length-upper (diagramOf t))
+sets-few t v = omega (arith, ap length (v .is), wide-length (diagramOf t), length-upper (diagramOf t))

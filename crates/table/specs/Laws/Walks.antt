@@ -11,7 +11,8 @@ use mir.Syntax.{w32}
 use mir.Val.{Fits}
 pub use Rattle.counting.specs.Laws.Lines.{each-more, each-none, each-length}
 use Rattle.orm.specs.Diagram.{Predicate, allRoles}
-use Rattle.table.specs.Positions.{predOf, predLength, predsIn, predsLength, typeCount, predCount, firstPredAt, diagramOf, Walkable}
+use Rattle.orm.specs.Form.{roleOf, groupOf}
+use Rattle.table.specs.Positions.{roleWidth, rolesIn, groupsIn, rolesStart, groupsStart, rolesOf, groupsOf, predOf, predLength, predsIn, predsLength, typeCount, predCount, firstPredAt, diagramOf, Walkable}
 use Rattle.table.specs.Cursors.{Ahead, rolesAhead, groupsAhead}
 
 -- ---- one number
@@ -28,6 +29,29 @@ pred-count-is t en ei er = er ∙ ap (λ (m : ℕ). getD (drop (2 + 6 * m) t) 0 
 
 pub pred-count-few : (t : List ℕ) {r : ℕ} → Walkable t → r ≡ predCount t → r ≤ 32
 pred-count-few t w e = rw e (w .few-preds)
+
+-- ---- role lines
+
+pub role-more : (t : List ℕ) (at n : ℕ) → 0 < n → rolesIn n (drop at t) ≡ roleOf (drop at t) ∷ rolesIn (n - 1) (drop (at + roleWidth) t)
+role-more = each-more roleOf roleWidth
+
+pub role-none : (n : ℕ) (s : List ℕ) → n ≤ 0 → rolesIn n s ≡ []
+role-none = each-none roleOf roleWidth
+
+-- ---- the roles and groups of the predicate that starts at `at`: how many, and where they start
+
+pub role-count : (s : List ℕ) → length (rolesOf s) ≡ getD s 2 0
+role-count s = each-length roleOf roleWidth (getD s 2 0) (drop rolesStart s)
+
+pub group-count : (s : List ℕ) → length (groupsOf s) ≡ getD s 3 0
+group-count s = each-length groupOf 2 (getD s 3 0) (drop (groupsStart s) s)
+
+module _ (t : List ℕ) (at : ℕ) {n e : ℕ} where
+  pub roles-here : n ≡ getD (drop at t) 2 0 → e ≡ at + rolesStart → rolesIn n (drop e t) ≡ rolesOf (drop at t)
+  roles-here en ee = rw (en, ee, ← drop-drop rolesStart at t)
+
+  pub groups-here : n ≡ getD (drop at t) 3 0 → e ≡ at + groupsStart (drop at t) → groupsIn n (drop e t) ≡ groupsOf (drop at t)
+  groups-here en ee = rw (en, ee, ← drop-drop (groupsStart (drop at t)) at t)
 
 -- ---- predicates; `e` is where the next one starts
 
@@ -64,7 +88,7 @@ ahead-is t at (suc n) h =
     ap₂ (λ (m : ℕ) (s : List ℕ). predLength (drop at t) + predsLength m s) e (drop-drop (predLength (drop at t)) at t)
 
 module _ (t : List ℕ) (at n : ℕ) where
-  pub ahead-here : Ahead t at n → 0 < n → at + (4 + 3 * getD (drop at t) 2 0 + 2 * getD (drop at t) 3 0) ≤ length t
+  pub ahead-here : Ahead t at n → 0 < n → at + predLength (drop at t) ≤ length t
   ahead-here a h = omega (arith, a .inside, ahead-is t at n h)
 
   -- single numbers of its first line
@@ -96,11 +120,11 @@ module _ {A : Type 0} (f : Predicate → List A) (i : ℕ) (counted : (s : List 
 module _ (t : List ℕ) (at n : ℕ) {e : ℕ} where
   pub roles-ahead : 0 < n → e ≡ at + predLength (drop at t)
       → getD (drop at t) 2 0 + rolesAhead (n - 1) (drop e t) ≡ rolesAhead n (drop at t)
-  roles-ahead = items-more (λ (p : Predicate). p .roles) 2 (λ s. each-length _ 3 (getD s 2 0) (drop 4 s)) t at n
+  roles-ahead = items-more (λ (p : Predicate). p .roles) 2 role-count t at n
 
   pub groups-ahead : 0 < n → e ≡ at + predLength (drop at t)
       → getD (drop at t) 3 0 + groupsAhead (n - 1) (drop e t) ≡ groupsAhead n (drop at t)
-  groups-ahead = items-more (λ (p : Predicate). p .groups) 3 (λ s. each-length _ 2 (getD s 3 0) (drop (4 + 3 * getD s 2 0) s)) t at n
+  groups-ahead = items-more (λ (p : Predicate). p .groups) 3 group-count t at n
 
 -- The `m` roles counted, and those ahead, are all roles
 abbrev pub RolesLeft : List ℕ → ℕ → ℕ → ℕ → Type 0

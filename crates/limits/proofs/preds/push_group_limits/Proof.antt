@@ -29,10 +29,6 @@ push-group-limits-spec =
     μ-loop
     (λ c κs. (search needs, search needs))
     (λ c κs. (search needs, search needs))
-    (λ c κs. search needs)
-    (λ c. search needs)
-    (λ c. search needs)
-    (λ c. search needs)
     (λ c. (search needs, search needs, search (needs, groups-start)))
     (λ c κs. (search needs, (search needs, (search needs, search needs))))
     (λ c. search needs)

@@ -3,7 +3,7 @@
 use Prim.Native.Nat.{_+_, _*_, _≤_}
 use lib.ListN.{length, drop}
 use Rattle.orm.specs.Sets.{limitsOfRole}
-use Rattle.table.specs.Positions.{rolesIn}
+use Rattle.table.specs.Positions.{roleWidth, rolesIn}
 use Rattle.table.specs.Cursors.{placedAt}
 use Rattle.buffer.specs.Written.{Writing}
 use Rattle.buffer.specs.Laws.{writing-more, writing-all, writing-long}
@@ -14,7 +14,7 @@ use Rattle.limits.proofs.preds.push_role_limits.Tie as tie
 
 abbrev Inv-loop : tie.InvT-loop
 Inv-loop t x out₀ at left₀ q₀ p₀ to₀ out left q p to =
-    (q + 3 * left ≤ length t) × (p + left ≤ 160)
+    (q + roleWidth * left ≤ length t) × (p + left ≤ 160)
     × Writing out₀ at (items (limitsOfRole (placedAt t x)) (x .roles) (placedAt t x .predicate .roles)) out to
     (items (limitsOfRole (placedAt t x)) p (rolesIn left (drop q t)))
 
@@ -28,7 +28,7 @@ push-role-limits-spec =
     Inv-loop
     μ-loop
     (λ c κs. (search needs, search needs))
-    (λ c. search needs)
+    (λ c κs. search needs)
     (λ c. (search needs, search needs, search (needs, roles-start)))
     (λ c κs. (search needs, (search needs, search needs)))
     (λ c. search needs)

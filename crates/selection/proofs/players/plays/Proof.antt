@@ -28,7 +28,7 @@ plays-spec =
     (λ c κs. search needs)
     (λ c. search (needs, within-start, ahead-start))
     (λ c κs. search (needs, ahead-third))
-    (λ c. search (needs, ahead-here))
+    (λ c κs. search (needs, ahead-here))
     (λ c κs. search (needs, roles-inside))
     (λ c. search (needs, within-here))
     (λ c κs. search (needs, ahead-here))

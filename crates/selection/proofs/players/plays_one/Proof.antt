@@ -4,14 +4,14 @@ use Prim.Native.Nat.{_+_, _*_, _≤_}
 use mathlib.Core.Path.{_≡_}
 use lib.ListN.{length, drop}
 use Rattle.orm.specs.Diagram.{plays}
-use Rattle.table.specs.Positions.{rolesIn}
+use Rattle.table.specs.Positions.{roleWidth, rolesIn}
 use Rattle.selection.specs.Laws.Players.{plays-none, plays-here, plays-more}
 use borrow.Author.Needs.{needs}
 use Rattle.selection.proofs.players.plays_one.Statement.{statement}
 use Rattle.selection.proofs.players.plays_one.Tie as tie
 
 abbrev Inv-loop : tie.InvT-loop
-Inv-loop t q count number left₀ p₀ left p = (p + 3 * left ≤ length t) × (plays number (rolesIn left (drop p t)) ≡ plays number (rolesIn count (drop q t)))
+Inv-loop t q count number left₀ p₀ left p = (p + roleWidth * left ≤ length t) × (plays number (rolesIn left (drop p t)) ≡ plays number (rolesIn count (drop q t)))
 
 abbrev μ-loop : tie.MeasureT-loop
 μ-loop t q count number left₀ p₀ left p = left

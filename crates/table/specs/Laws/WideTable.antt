@@ -1,4 +1,4 @@
--- `diagramOf` undoes `table`: a table without fault of form gives by positions the diagram that reading it gives.
+-- `diagramOf` undoes `wideTable`: the table of a diagram, with role lines of one width, gives by positions that diagram.
 use Prim.Native.Nat.{ℕ, suc, _+_, _*_, _≤_}
 use native.Mathlib.Nat.{mul-suc}
 use native.Mathlib.Omega.{arith}
@@ -6,61 +6,61 @@ use mathlib.Core.Path.{_≡_, refl, sym, ap, ap₂, _∙_}
 use mathlib.Core.List.{List, [], _∷_, _++_, map, flatMap, append-assoc}
 use lib.ListN.{length, getD, drop, length-append}
 use lib.Seq.{drop-at, drop-drop}
-use Rattle.orm.specs.WellFormed.{WellFormed}
 use Rattle.orm.specs.Diagram.{ObjectType, Role, Frequency, Predicate, Diagram, Line, lineOfType, lineOfRole, lineOfGroup, lineOfPred}
-use Rattle.orm.specs.Diagram.{linesOfPred, lineOfCount, predsLine, endLine, allRoles, allGroups, lines, table}
+use Rattle.orm.specs.Diagram.{linesOfPred, lineOfCount, predsLine, endLine, allRoles, lines}
 use Rattle.orm.specs.Form.{typeOf, roleOf, groupOf}
-use Rattle.table.specs.Positions.{each, typesIn, rolesIn, groupsIn, predOf, predLength, predsIn, predsLength, predCount, firstPredAt, diagramOf}
+use Rattle.reading.specs.WideTable.{roleWidth, added, wideLine, wideTable}
+use Rattle.table.specs.Positions.{each, typesIn, rolesIn, groupsIn, predOf, rolesStart, predLength, predsIn, predsLength, predCount, firstPredAt, diagramOf}
 
 -- The numbers of some lines
 unfoldable pub values : List Line → List ℕ
-values ls = flatMap (λ (l : Line). l .values) ls
+values ls = flatMap wideLine ls
 
 pub values-append : (ls ks : List Line) → values (ls ++ ks) ≡ values ls ++ values ks
 unfolding values flatMap
 values-append [] ks = refl
 values-append (l ∷ ls) ks =
-    ap (λ (r : List ℕ). l .values ++ r) (values-append ls ks) ∙ sym (append-assoc (l .values) (values ls) (values ks))
+    ap (λ (r : List ℕ). wideLine l ++ r) (values-append ls ks) ∙ sym (append-assoc (wideLine l) (values ls) (values ks))
 
 -- lines of one kind, `k` numbers each
-module _ {A : Type 0} (make : List ℕ → A) (k : ℕ) (lineOf : A → Line) (made : (a : A) (s : List ℕ) → make (lineOf a .values ++ s) ≡ a)
-    (long : (a : A) → length (lineOf a .values) ≡ k) where
+module _ {A : Type 0} (make : List ℕ → A) (k : ℕ) (lineOf : A → Line) (made : (a : A) (s : List ℕ) → make (wideLine (lineOf a) ++ s) ≡ a)
+    (long : (a : A) → length (wideLine (lineOf a)) ≡ k) where
   each-back : (xs : List A) (s : List ℕ) → each make k (length xs) (values (map lineOf xs) ++ s) ≡ xs
   unfolding each values flatMap
   each-back [] s = refl
   each-back (a ∷ xs) s =
       rw append-assoc
       (ap₂ {C = List A} (λ y ys. y ∷ ys) (made a (values (map lineOf xs) ++ s))
-      (ap (each make k (length xs)) (drop-at (lineOf a .values) (values (map lineOf xs) ++ s) k (long a))
+      (ap (each make k (length xs)) (drop-at (wideLine (lineOf a)) (values (map lineOf xs) ++ s) k (long a))
       ∙ each-back xs s))
 
   each-long : (xs : List A) → length (values (map lineOf xs)) ≡ k * length xs
   unfolding values flatMap
   each-long [] = omega arith
-  each-long (a ∷ xs) = omega (arith, length-append (lineOf a .values) (values (map lineOf xs)), long a, each-long xs, mul-suc k (length xs))
+  each-long (a ∷ xs) = omega (arith, length-append (wideLine (lineOf a)) (values (map lineOf xs)), long a, each-long xs, mul-suc k (length xs))
 
 types-back : (ts : List ObjectType) (s : List ℕ) → typesIn (length ts) (values (map lineOfType ts) ++ s) ≡ ts
-unfolding lineOfType
+unfolding lineOfType added
 types-back = each-back typeOf 6 lineOfType (λ t s. refl) (λ t. refl)
 
 types-long : (ts : List ObjectType) → length (values (map lineOfType ts)) ≡ 6 * length ts
-unfolding lineOfType
+unfolding lineOfType added
 types-long = each-long typeOf 6 lineOfType (λ t s. refl) (λ t. refl)
 
 roles-back : (rs : List Role) (s : List ℕ) → rolesIn (length rs) (values (map lineOfRole rs) ++ s) ≡ rs
-unfolding lineOfRole
-roles-back = each-back roleOf 3 lineOfRole (λ r s. refl) (λ r. refl)
+unfolding lineOfRole added
+roles-back = each-back roleOf roleWidth lineOfRole (λ r s. refl) (λ r. refl)
 
-roles-long : (rs : List Role) → length (values (map lineOfRole rs)) ≡ 3 * length rs
-unfolding lineOfRole
-roles-long = each-long roleOf 3 lineOfRole (λ r s. refl) (λ r. refl)
+roles-long : (rs : List Role) → length (values (map lineOfRole rs)) ≡ roleWidth * length rs
+unfolding lineOfRole added
+roles-long = each-long roleOf roleWidth lineOfRole (λ r s. refl) (λ r. refl)
 
 groups-back : (gs : List Frequency) (s : List ℕ) → groupsIn (length gs) (values (map lineOfGroup gs) ++ s) ≡ gs
-unfolding lineOfGroup
+unfolding lineOfGroup added
 groups-back = each-back groupOf 2 lineOfGroup (λ g s. refl) (λ g. refl)
 
 groups-long : (gs : List Frequency) → length (values (map lineOfGroup gs)) ≡ 2 * length gs
-unfolding lineOfGroup
+unfolding lineOfGroup added
 groups-long = each-long groupOf 2 lineOfGroup (λ g s. refl) (λ g. refl)
 
 module _ (p : Predicate) (s : List ℕ) where
@@ -77,35 +77,35 @@ module _ (p : Predicate) (s : List ℕ) where
   whole = head ++ (roles ++ (groups ++ s))
 
   pred-whole : values (linesOfPred p) ++ s ≡ whole
-  unfolding whole head roles groups linesOfPred flatMap values lineOfPred
+  unfolding whole head roles groups linesOfPred flatMap values lineOfPred added
   pred-whole =
       ap (λ (x : List ℕ). head ++ x)
       (ap (λ (x : List ℕ). x ++ s) (values-append (map lineOfRole (p .roles)) (map lineOfGroup (p .groups))) ∙ append-assoc roles groups s)
 
-  groups-at : drop (4 + 3 * length (p .roles)) whole ≡ groups ++ s
-  unfolding whole head roles lineOfPred
+  groups-at : drop (rolesStart + roleWidth * length (p .roles)) whole ≡ groups ++ s
+  unfolding whole head roles lineOfPred added
   groups-at =
-      let long : length (head ++ roles) ≡ 4 + 3 * length (p .roles) = omega (arith, length-append head roles, roles-long (p .roles)) in
-      ap (drop (4 + 3 * length (p .roles))) (sym (append-assoc head roles (groups ++ s)))
-      ∙ drop-at (head ++ roles) (groups ++ s) (4 + 3 * length (p .roles)) long
+      let long : length (head ++ roles) ≡ rolesStart + roleWidth * length (p .roles) = omega (arith, length-append head roles, roles-long (p .roles)) in
+      ap (drop (rolesStart + roleWidth * length (p .roles))) (sym (append-assoc head roles (groups ++ s)))
+      ∙ drop-at (head ++ roles) (groups ++ s) (rolesStart + roleWidth * length (p .roles)) long
 
   pred-end : drop (predLength whole) whole ≡ s
-  unfolding whole head roles groups lineOfPred
+  unfolding whole head roles groups lineOfPred added
   pred-end =
-      let n : ℕ = 4 + 3 * length (p .roles) + 2 * length (p .groups) in
+      let n : ℕ = rolesStart + roleWidth * length (p .roles) + 2 * length (p .groups) in
       let long : length (head ++ (roles ++ groups)) ≡ n =
       omega (arith, length-append roles groups, roles-long (p .roles), groups-long (p .groups)) in
       ap (λ (x : List ℕ). drop n (head ++ x)) (sym (append-assoc roles groups s)) ∙ drop-at (head ++ (roles ++ groups)) s n long
 
   pred-back : predOf whole ≡ p
-  unfolding whole head roles groups lineOfPred
+  unfolding whole head roles groups lineOfPred added
   pred-back =
       ap₂ (λ (rs : List Role) (gs : List Frequency). record { min = p .min; max = p .max; roles = rs; groups = gs })
       (roles-back (p .roles) (groups ++ s))
       (ap (groupsIn (length (p .groups))) groups-at ∙ groups-back (p .groups) s)
 
   pred-long : length (values (linesOfPred p)) ≡ predLength whole
-  unfolding whole head roles groups linesOfPred flatMap values lineOfPred
+  unfolding whole head roles groups linesOfPred flatMap values lineOfPred added
   pred-long =
       omega (
         arith,
@@ -145,22 +145,6 @@ preds-long (p ∷ ps) s =
     ap (predsLength (suc (length ps))) e ∙ here
     ∙ sym (long ∙ ap (λ (n : ℕ). n + length (values (flatMap linesOfPred ps))) (pred-long p rest))
 
-preds-count : (ps : List Predicate)
-    → length (values (flatMap linesOfPred ps))
-    ≡ 4 * length ps + 3 * length (flatMap (λ (p : Predicate). p .roles) ps) + 2 * length (flatMap (λ (p : Predicate). p .groups) ps)
-unfolding values flatMap whole head lineOfPred
-preds-count [] = omega arith
-preds-count (p ∷ ps) =
-    omega (
-      arith,
-      ap length (values-append (linesOfPred p) (flatMap linesOfPred ps)),
-      length-append (values (linesOfPred p)) (values (flatMap linesOfPred ps)),
-      pred-long p [],
-      preds-count ps,
-      length-append (p .roles) (flatMap (λ (p : Predicate). p .roles) ps),
-      length-append (p .groups) (flatMap (λ (p : Predicate). p .groups) ps),
-    )
-
 module _ (d : Diagram) where
   types : List ℕ
   types = values (map lineOfType (d .types))
@@ -168,9 +152,9 @@ module _ (d : Diagram) where
   from-preds : List ℕ
   from-preds = length (d .preds) ∷ (values (flatMap linesOfPred (d .preds)) ++ (length (allRoles d) ∷ []))
 
-  table-whole : table d ≡ 1 ∷ length (d .types) ∷ (types ++ from-preds)
-  unfolding table lines lineOfCount types from-preds values flatMap
-  table-whole =
+  wide-whole : wideTable d ≡ 1 ∷ length (d .types) ∷ (types ++ from-preds)
+  unfolding wideTable lines lineOfCount types from-preds values flatMap added
+  wide-whole =
       let first : List Line = map lineOfType (d .types) in
       let preds : List Line = flatMap linesOfPred (d .preds) in
       let last : List Line = lineOfCount endLine (length (allRoles d)) ∷ [] in
@@ -192,34 +176,21 @@ module _ (d : Diagram) where
       let e : 3 + 6 * length (d .types) ≡ 2 + 6 * length (d .types) + 1 = omega arith in
       rw e (sym (drop-drop 1 (2 + 6 * length (d .types)) (1 ∷ length (d .types) ∷ (types ++ from-preds))) ∙ ap (drop 1) preds-at)
 
-  pub table-back : diagramOf (table d) ≡ d
+  pub wide-back : diagramOf (wideTable d) ≡ d
   unfolding diagramOf types from-preds
-  table-back =
-      rw table-whole
+  wide-back =
+      rw wide-whole
       (ap₂ (λ (ts : List ObjectType) (ps : List Predicate). record { types = ts; preds = ps })
       (types-back (d .types) from-preds)
       (ap₂ (λ (s r : List ℕ). predsIn (getD s 0 0) r) preds-at preds-after ∙ preds-back (d .preds) (length (allRoles d) ∷ [])))
 
   -- Every line that the table tells of stands in it
-  pub table-inside : firstPredAt (table d) + predsLength (predCount (table d)) (drop (firstPredAt (table d)) (table d)) ≤ length (table d)
+  pub wide-inside : firstPredAt (wideTable d) + predsLength (predCount (wideTable d)) (drop (firstPredAt (wideTable d)) (wideTable d)) ≤ length (wideTable d)
   unfolding types from-preds
-  table-inside =
+  wide-inside =
       let last : List ℕ = length (allRoles d) ∷ [] in
       let preds : List ℕ = values (flatMap linesOfPred (d .preds)) in
       let t : List ℕ = 1 ∷ length (d .types) ∷ (types ++ from-preds) in
       let long : predsLength (getD (drop (2 + 6 * length (d .types)) t) 0 0) (drop (3 + 6 * length (d .types)) t) ≡ length preds =
       ap₂ (λ (s r : List ℕ). predsLength (getD s 0 0) r) preds-at preds-after ∙ preds-long (d .preds) last in
-      rw table-whole (omega (arith, long, length-append types from-preds, types-long (d .types), length-append preds last))
-
-  -- How many numbers the table has
-  pub table-length : length (table d) ≡ 4 + 6 * length (d .types) + 4 * length (d .preds) + 3 * length (allRoles d) + 2 * length (allGroups d)
-  unfolding types from-preds allRoles allGroups
-  table-length =
-      let last : List ℕ = length (allRoles d) ∷ [] in
-      let preds : List ℕ = values (flatMap linesOfPred (d .preds)) in
-      rw table-whole
-      (omega (arith, length-append types from-preds, types-long (d .types), length-append preds last, preds-count (d .preds)))
-
-  -- of every diagram
-  pub table-short : WellFormed d → length (table d) ≤ 708
-  table-short w = omega (arith, table-length, w .typeCount .1, w .predCount .1, w .roleCount, w .groupCount)
+      rw wide-whole (omega (arith, long, length-append types from-preds, types-long (d .types), length-append preds last))

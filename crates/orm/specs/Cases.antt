@@ -10,6 +10,7 @@ pub mod Limits
 pub mod Inputs
 pub mod Subtypes
 pub mod SubtypeRanges
+pub mod RoleLimits
 pub mod Several
 pub mod Broken
 pub mod Lines

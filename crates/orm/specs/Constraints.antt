@@ -1,4 +1,4 @@
--- The sizes of a population's sets, and the constraints K1 to K10 (document 01, 'Constraints of a population').
+-- The sizes of a population's sets, and the constraints K1 to K11 (document 01, 'Constraints of a population').
 use Prim.Native.Nat.{ℕ, suc}
 use mathlib.Core.Bool.{Bool, true, false}
 use mathlib.Core.Option.{Option, none, some}
@@ -22,6 +22,10 @@ pub record Played : Type 0 where
 
 unfoldable pub played : Predicate → List (List ℕ) → List Played
 played p rows = mapFrom (λ (j : ℕ) (r : Role). record { role = r; values = column j rows }) 0 (p .roles)
+
+-- How many members it has: 'a role's members are the different values in its column'
+abbrev pub memberCount : Played → ℕ
+memberCount x = length (distinct eqb (x .values))
 
 -- A group and the combinations 'in its columns', one for each row
 pub record Grouped : Type 0 where
@@ -65,7 +69,7 @@ module _ (d : Diagram) (o : Population) where
   sizes =
       map length (o .types)
       ++ map length (o .preds)
-      ++ map (λ (x : Played). length (distinct eqb (x .values))) allPlayed
+      ++ map memberCount allPlayed
       ++ map (λ (x : Grouped). length (distinct same (x .combinations))) allGrouped
 
 -- The members of the type with this number
@@ -115,22 +119,27 @@ K9 p rows =
     inRange (x .frequency .fmin to x .frequency .fmax) (occurrences same v (x .combinations)) in
     all (λ (x : Grouped). all (held x) (x .combinations)) (grouped p rows)
 
+-- 'role members number RMIN..RMAX' (document 02, S-8)
+unfoldable pub K11 : Predicate → List (List ℕ) → Bool
+K11 p rows = all (λ (x : Played). inRange (x .role .rmin to x .role .rmax) (memberCount x)) (played p rows)
+
 module _ (d : Diagram) (o : Population) where
   -- 'each member of a non-independent type is in a role that type plays', but 'a non-independent subtype that plays no role is free .. of K10'
   -- (document 02, S-2)
   unfoldable pub K10 : ℕ → ObjectType → List ℕ → Bool
   K10 number t vs = elim (mustPlay d number t) [ true ↦ within eqb vs (valuesInRoles number (allPlayed d o)) | false ↦ true ]
 
-  -- Whether each type or predicate keeps K1, K2 and so on to K10: 'a type's for K1 to K4 and K10, a predicate's for K5 to K9'
+  -- Whether each type or predicate keeps K1, K2 and so on to K11: 'a type's for K1 to K4 and K10, a predicate's for K5 to K9', and for K11
   unfoldable pub constraints : List (List Bool)
   constraints =
       let ofTypes : (ℕ → ObjectType → List ℕ → Bool) → List Bool = λ k. eachType k 1 (d .types) (o .types) in
       let ofPreds : (Predicate → List (List ℕ) → Bool) → List Bool = λ k. eachPred k (d .preds) (o .preds) in
       ofTypes (λ n. K1) ∷ ofTypes (λ n. K2) ∷ ofTypes (λ n. K3) ∷ ofTypes (λ n. K4 o)
       ∷ ofPreds K5 ∷ ofPreds K6 ∷ ofPreds (K7 o) ∷ ofPreds (K8 o) ∷ ofPreds K9
-      ∷ ofTypes K10 ∷ []
+      ∷ ofTypes K10 ∷ ofPreds K11 ∷ []
 
--- Yes, or a K number and the number of a type or predicate: 'a type's for K1 to K4 and K10, a predicate's for K5 to K9'
+-- Yes, or a K number and the number of a type or predicate: 'a type's for K1 to K4 and K10, a predicate's for K5 to K9'; 'The judge .. gives K11
+-- the predicate's number'
 pub data Answer : Type 0 where
   valid : Answer
   breaks : ℕ → ℕ → Answer

@@ -1,6 +1,6 @@
 -- A diagram and its lines in file order (document 01, 'The diagram file').
 use Prim.Native.Nat.{ℕ, _-_}
-use mathlib.Core.Bool.{Bool, not, _&&_, _||_}
+use mathlib.Core.Bool.{Bool, true, false, not, _&&_, _||_}
 use mathlib.Core.List.{List, [], _∷_, _++_, map, flatMap}
 use lib.Dec.{eqb}
 use lib.ListN.{length}
@@ -15,11 +15,14 @@ pub record ObjectType : Type 0 where
   pub super : ℕ
   pub indep : ℕ
 
--- `role=TYPE,MAND,GROUP`
+-- `role=TYPE,MAND,GROUP`, or with 'two more numbers after GROUP, RMIN and RMAX, .. the fewest and most different members in that role'
+-- (document 02, S-8)
 pub record Role : Type 0 where
   pub type : ℕ
   pub mand : ℕ
   pub group : ℕ
+  pub rmin : ℕ
+  pub rmax : ℕ
 
 -- `freq=FMIN,FMAX`: a frequency group; uniqueness is frequency 1..1
 pub record Frequency : Type 0 where
@@ -33,7 +36,9 @@ pub record Predicate : Type 0 where
   pub roles : List Role
   pub groups : List Frequency
 
+-- `diagram=1` or `diagram=2`: its kind
 pub record Diagram : Type 0 where
+  pub kind : ℕ
   pub types : List ObjectType
   pub preds : List Predicate
 
@@ -83,9 +88,9 @@ pub record Totals : Type 0 where
 unfoldable pub totals : Diagram → Totals
 totals d = record { types = length (d .types); preds = length (d .preds); roles = length (allRoles d); groups = length (allGroups d) }
 
--- The keys
+-- The keys; a role line with RMIN and RMAX is a kind of its own
 pub data LineKind : Type 0 where
-  diagramLine typesLine typeLine predsLine predLine roleLine freqLine endLine : LineKind
+  diagramLine typesLine typeLine predsLine predLine roleLine limitedRoleLine freqLine endLine : LineKind
 
 -- A line: its key and its numbers
 pub record Line : Type 0 where
@@ -95,8 +100,19 @@ pub record Line : Type 0 where
 unfoldable pub lineOfType : ObjectType → Line
 lineOfType t = record { kind = typeLine; values = t .min ∷ t .max ∷ t .first ∷ t .last ∷ t .super ∷ t .indep ∷ [] }
 
-unfoldable pub lineOfRole : Role → Line
-lineOfRole r = record { kind = roleLine; values = r .type ∷ r .mand ∷ r .group ∷ [] }
+-- 'In files that begin `diagram=2` a role line has two more numbers'
+unfoldable pub limitsRoles : ℕ → Bool
+limitsRoles kind = eqb kind 2
+
+unfoldable pub roleLineOf : ℕ → LineKind
+roleLineOf kind = elim (limitsRoles kind) [ true ↦ limitedRoleLine | false ↦ roleLine ]
+
+-- Of a diagram of this kind: 'In `diagram=1` they .. are not written'
+unfoldable pub lineOfRole : ℕ → Role → Line
+lineOfRole kind r = record {
+  kind = roleLineOf kind;
+  values = r .type ∷ r .mand ∷ r .group ∷ elim (limitsRoles kind) [ true ↦ r .rmin ∷ r .rmax ∷ [] | false ↦ [] ];
+}
 
 unfoldable pub lineOfGroup : Frequency → Line
 lineOfGroup f = record { kind = freqLine; values = f .fmin ∷ f .fmax ∷ [] }
@@ -105,8 +121,8 @@ unfoldable pub lineOfPred : Predicate → Line
 lineOfPred p = record { kind = predLine; values = p .min ∷ p .max ∷ length (p .roles) ∷ length (p .groups) ∷ [] }
 
 -- 'for each predicate `pred=MIN,MAX,ROLES,GROUPS`, its lines `role=TYPE,MAND,GROUP`, its lines `freq=FMIN,FMAX`'
-unfoldable pub linesOfPred : Predicate → List Line
-linesOfPred p = lineOfPred p ∷ map lineOfRole (p .roles) ++ map lineOfGroup (p .groups)
+unfoldable pub linesOfPred : ℕ → Predicate → List Line
+linesOfPred kind p = lineOfPred p ∷ map (lineOfRole kind) (p .roles) ++ map lineOfGroup (p .groups)
 
 -- A line with one number
 unfoldable pub lineOfCount : LineKind → ℕ → Line
@@ -115,9 +131,9 @@ lineOfCount k n = record { kind = k; values = n ∷ [] }
 -- 'Lines in this order, no others'; `end=` 'the number of role lines in the file'
 unfoldable pub lines : Diagram → List Line
 lines d =
-    lineOfCount diagramLine 1
+    lineOfCount diagramLine (d .kind)
     ∷ lineOfCount typesLine (length (d .types)) ∷ map lineOfType (d .types)
-    ++ lineOfCount predsLine (length (d .preds)) ∷ flatMap linesOfPred (d .preds)
+    ++ lineOfCount predsLine (length (d .preds)) ∷ flatMap (linesOfPred (d .kind)) (d .preds)
     ++ lineOfCount endLine (length (allRoles d)) ∷ []
 
 -- 'The table form holds the same numbers in file order'

@@ -7,7 +7,7 @@ use mathlib.Core.List.{List, [], _∷_, _++_}
 use lib.Dec.{leb, ltb, eqb}
 use lib.ListN.{length, getD}
 use Rattle.counting.specs.Lists.{upFrom}
-use Rattle.orm.specs.Diagram.{ObjectType, Role, Frequency, Predicate, Diagram, LineKind, diagramLine, typesLine, typeLine, predsLine, predLine, roleLine, freqLine, endLine, isRoot, index, allRoles}
+use Rattle.orm.specs.Diagram.{ObjectType, Role, Frequency, Predicate, Diagram, LineKind, diagramLine, typesLine, typeLine, predsLine, predLine, roleLine, limitedRoleLine, freqLine, endLine, isRoot, index, limitsRoles, roleLineOf, allRoles}
 use Rattle.orm.specs.Supertypes.{firstValue, hasRange, lastValue}
 use Rattle.orm.specs.Reader.{Reading, rejected, read, Reader, _>>=_, pure, forEach, atEnd, Cut, broken, cut}
 
@@ -19,12 +19,13 @@ pub data Range : Type 0 where
 
 -- 'Ranges': of each number on the line, in order. '`end` has no range of its own'
 unfoldable pub ranges : LineKind → List Range
-ranges diagramLine = 1 to 1 ∷ []
+ranges diagramLine = 1 to 2 ∷ []
 ranges typesLine = 1 to 32 ∷ []
 ranges typeLine = 1 to 4096 ∷ 1 to 4096 ∷ 0 to 999999 ∷ 0 to 999999 ∷ 0 to 32 ∷ 0 to 1 ∷ []
 ranges predsLine = 1 to 32 ∷ []
 ranges predLine = 1 to 4096 ∷ 1 to 4096 ∷ 1 to 6 ∷ 0 to 6 ∷ []
 ranges roleLine = 1 to 32 ∷ 0 to 1 ∷ 0 to 6 ∷ []
+ranges limitedRoleLine = 1 to 32 ∷ 0 to 1 ∷ 0 to 6 ∷ 1 to 4096 ∷ 1 to 4096 ∷ []
 ranges freqLine = 1 to 4096 ∷ 1 to 4096 ∷ []
 ranges endLine = unlimited ∷ []
 
@@ -32,9 +33,12 @@ ranges endLine = unlimited ∷ []
 unfoldable pub fields : LineKind → ℕ
 fields k = length (ranges k)
 
--- On a role line, for what counts the numbers of roles (reading: role-fields)
+-- On a role line in `diagram=1`, and in `diagram=2` (reading: role-fields, limited-fields)
 abbrev pub roleFields : ℕ
 roleFields = 3
+
+abbrev pub limitedRoleFields : ℕ
+limitedRoleFields = 5
 
 unfoldable pub inRange : Range → ℕ → Bool
 inRange (low to high) v = leb low v && leb v high
@@ -71,8 +75,15 @@ countOf v = getD v 0 0
 abbrev pub typeOf : List ℕ → ObjectType
 typeOf v = record { min = getD v 0 0; max = getD v 1 0; first = getD v 2 0; last = getD v 3 0; super = getD v 4 0; indep = getD v 5 0 }
 
-abbrev pub roleOf : List ℕ → Role
-roleOf v = record { type = getD v 0 0; mand = getD v 1 0; group = getD v 2 0 }
+-- In a diagram of this kind; RMIN and RMAX in `diagram=1` 'read as 1 and 4096'
+abbrev pub roleOf : ℕ → List ℕ → Role
+roleOf kind v = record {
+  type = getD v 0 0;
+  mand = getD v 1 0;
+  group = getD v 2 0;
+  rmin = elim (limitsRoles kind) [ true ↦ getD v 3 0 | false ↦ 1 ];
+  rmax = elim (limitsRoles kind) [ true ↦ getD v 4 0 | false ↦ 4096 ];
+}
 
 abbrev pub groupOf : List ℕ → Frequency
 groupOf v = record { fmin = getD v 0 0; fmax = getD v 1 0 }
@@ -107,9 +118,9 @@ unfoldable pub predTests : ℕ → ℕ → PredHead → List Test
 predTests roles groups p =
     2 unless leb (roles + p .roles) mostRoles ∷ 2 unless leb (groups + p .groups) mostGroups ∷ 4 unless leb (p .min) (p .max) ∷ []
 
--- under so many types and groups: 3 'TYPE above T; GROUP above GROUPS'
+-- under so many types and groups: 3 'TYPE above T; GROUP above GROUPS', 4 'where RMIN is above RMAX'
 unfoldable pub roleTests : ℕ → ℕ → Role → List Test
-roleTests types groups r = 3 unless leb (r .type) types ∷ 3 unless leb (r .group) groups ∷ []
+roleTests types groups r = 3 unless leb (r .type) types ∷ 3 unless leb (r .group) groups ∷ 4 unless leb (r .rmin) (r .rmax) ∷ []
 
 -- Some role names the group
 unfoldable pub named : ℕ → List Role → Bool
@@ -150,31 +161,31 @@ module _ (next : LineKind → List ℕ → Cut) where
     ts ← typesAfter (before ++ t ∷ []) k
     pure (t ∷ ts)
 
-  -- A predicate's lines, under so many types, after so many roles and groups
-  unfoldable pub predicate : ℕ → ℕ → ℕ → Reader Predicate
-  predicate types roles groups = do
+  -- A predicate's lines, in a diagram of this kind, under so many types, after so many roles and groups
+  unfoldable pub predicate : ℕ → ℕ → ℕ → ℕ → Reader Predicate
+  predicate kind types roles groups = do
     p ← line predLine headOf (predTests roles groups)
-    rs ← forEach (λ (i : ℕ). line roleLine roleOf (roleTests types (p .groups))) (upFrom 1 (p .roles))
+    rs ← forEach (λ (i : ℕ). line (roleLineOf kind) (roleOf kind) (roleTests types (p .groups))) (upFrom 1 (p .roles))
     gs ← forEach (λ (g : ℕ). line freqLine groupOf (groupTests rs g)) (upFrom 1 (p .groups))
     pure (record { min = p .min; max = p .max; roles = rs; groups = gs })
 
   -- So many predicates
-  unfoldable pub predicates : ℕ → ℕ → ℕ → ℕ → Reader (List Predicate)
-  predicates types roles groups zero = pure []
-  predicates types roles groups (suc k) = do
-    p ← predicate types roles groups
-    ps ← predicates types (roles + length (p .roles)) (groups + length (p .groups)) k
+  unfoldable pub predicates : ℕ → ℕ → ℕ → ℕ → ℕ → Reader (List Predicate)
+  predicates kind types roles groups zero = pure []
+  predicates kind types roles groups (suc k) = do
+    p ← predicate kind types roles groups
+    ps ← predicates kind types (roles + length (p .roles)) (groups + length (p .groups)) k
     pure (p ∷ ps)
 
   -- 'Lines in this order, no others'
   unfoldable pub diagramLines : Reader Diagram
   diagramLines = do
-    one ← count diagramLine
+    kind ← count diagramLine
     t ← count typesLine
     ts ← typesAfter [] t
     p ← count predsLine
-    ps ← predicates t 0 0 p
-    let d : Diagram = record { types = ts; preds = ps }
+    ps ← predicates kind t 0 0 p
+    let d : Diagram = record { kind = kind; types = ts; preds = ps }
     n ← line endLine countOf (endTests (length (allRoles d)))
     pure d
 

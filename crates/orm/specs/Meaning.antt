@@ -1,4 +1,4 @@
--- Populations and the constraints K1 to K10 as propositions; `Laws/Decided` shows that the tests of `Constraints` decide them
+-- Populations and the constraints K1 to K11 as propositions; `Laws/Decided` shows that the tests of `Constraints` decide them
 -- (document 01, 'Constraints of a population').
 use Prim.Native.Nat.{ℕ, suc, _≤_}
 use mathlib.Core.Path.{_≡_}
@@ -10,7 +10,7 @@ use Rattle.counting.specs.Distinct.{occurrences}
 use Rattle.counting.specs.Terms.{_∈_, _⊆_, Each, Each2, NoRepeats}
 use Rattle.orm.specs.Diagram.{ObjectType, Role, Predicate, Diagram, allRoles}
 use Rattle.orm.specs.Population.{Population, cells}
-use Rattle.orm.specs.Constraints.{Played, Grouped, played, grouped, allPlayed, membersOf}
+use Rattle.orm.specs.Constraints.{Played, Grouped, memberCount, played, grouped, allPlayed, membersOf}
 
 -- `low..high`
 abbrev pub Between : ℕ → ℕ → ℕ → Type 0
@@ -92,6 +92,12 @@ MustPlay d number t = (¬ (t .indep ≡ 1)) × ((t .super ≡ 0) ⊎ Plays numbe
 abbrev pub M10 : Diagram → Population → ℕ → ObjectType → List ℕ → Type 0
 M10 d o number t vs = MustPlay d number t → (v : ℕ) → v ∈ vs → InRoleOf number (allPlayed d o) v
 
+-- ---- of a predicate and its rows, again
+
+-- K11 'role members number RMIN..RMAX'
+abbrev pub M11 : Predicate → List (List ℕ) → Type 0
+M11 p rows = (x : Played) → x ∈ played p rows → Between (x .role .rmin) (memberCount x) (x .role .rmax)
+
 -- ---- the population
 
 -- 'It meets the diagram's constraints when it breaks no K'; said of a population of the diagram's shape (`Shaped`)
@@ -106,6 +112,7 @@ pub record Meets (d : Diagram) (o : Population) : Type 0 where
   pub k8 : EachPred (M8 o) (d .preds) (o .preds)
   pub k9 : EachPred M9 (d .preds) (o .preds)
   pub k10 : EachType (M10 d o) 1 (d .types) (o .types)
+  pub k11 : EachPred M11 (d .preds) (o .preds)
 
 -- Every row has a cell for each role
 abbrev pub Rows : Predicate → List (List ℕ) → Type 0

@@ -20,12 +20,12 @@ firstRole d = firstPred d + length (d .preds)
 unfoldable pub firstGroup : Diagram → ℕ
 firstGroup d = firstRole d + length (allRoles d)
 
--- Lower bounds (document 01: floors): 'MIN for types and predicates, else 1'
+-- Lower bounds (document 01: floors): 'MIN for types and predicates, else 1', and RMIN is 'the role's floor'
 unfoldable pub lower : Diagram → List ℕ
 lower d =
     map (λ (t : ObjectType). t .min) (d .types)
     ++ map (λ (p : Predicate). p .min) (d .preds)
-    ++ map (λ (r : Role). 1) (allRoles d)
+    ++ map (λ (r : Role). r .rmin) (allRoles d)
     ++ map (λ (f : Frequency). 1) (allGroups d)
 
 -- 'root, the smaller of MAX and LAST - FIRST + 1; subtype and predicate, MAX; role and group, 4096', and where a subtype gives FIRST and LAST
@@ -33,12 +33,16 @@ lower d =
 unfoldable pub upperOfType : ObjectType → ℕ
 upperOfType t = elim (hasRange t) [ true ↦ min (t .max) (t .last - t .first + 1) | false ↦ t .max ]
 
+-- RMAX is 'part of its starting ceiling': of a role
+unfoldable pub upperOfRole : Role → ℕ
+upperOfRole r = min 4096 (r .rmax)
+
 -- Starting upper bounds (document 01: starting ceilings), of all sets
 unfoldable pub upper : Diagram → List ℕ
 upper d =
     map upperOfType (d .types)
     ++ map (λ (p : Predicate). p .max) (d .preds)
-    ++ map (λ (r : Role). 4096) (allRoles d)
+    ++ map upperOfRole (allRoles d)
     ++ map (λ (f : Frequency). 4096) (allGroups d)
 
 -- The positions, counted from `i`, of the roles that pass the test

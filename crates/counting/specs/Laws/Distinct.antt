@@ -1,8 +1,8 @@
 -- What all, member, within, allDiffer, occurrences and distinct say of a list's members.
-use Prim.Native.Nat.{ℕ, suc, _+_, _≤_, zero-le, suc-le-suc}
+use Prim.Native.Nat.{ℕ, suc, _+_, _≤_, _<_, zero-le, suc-le-suc}
 use mathlib.Core.Path.{_≡_, refl, sym, ap, _∙_}
 use mathlib.Core.Logic.{_↔_, Iff·trans, Iff·symm, Iff·and, Iff·not, eq-comm, _⊎_, inl, inr, ⊎-elim}
-use mathlib.Core.Bool.{Bool, true, false, _||_, or-true, or-assoc, false≢true, and-eq-true-iff}
+use mathlib.Core.Bool.{Bool, true, false, not, _&&_, _||_, or-true, or-assoc, false≢true, and-eq-true-iff}
 use mathlib.Mathlib.Data.Bool.Basic.{not-iff-not, bool-iff-false}
 use mathlib.Core.List.{List, [], _∷_, _++_, map, List·Memᴰ·head as here, List·Memᴰ·tail as there, Memᴰ·cast, Memᴰ·map, List·Memᴰ·not-nil}
 use native.Mathlib.Nat.{add-zero, suc-inj}
@@ -64,6 +64,17 @@ all-decides p {P} h (x ∷ xs) =
     Iff·trans (and-eq-true-iff _ _)
     (Iff·trans (Iff·and (h x) (all-decides p h xs)) (λ q. each-cons P (q .0) (q .1), λ f. (each-head P f, each-tail P f)))
 
+-- an element that fails the test
+pub all-fails : {A : Type 0} (p : A → Bool) (xs : List A) → all p xs ≡ false → (x : A) × (x ∈ xs) × (p x ≡ false)
+unfolding all
+all-fails p [] e = absurd (false≢true (sym e))
+all-fails {A} p (x ∷ xs) e = go (p x) refl e (all-fails p xs)
+  where
+    go : (b : Bool) → p x ≡ b → (b && all p xs) ≡ false → (all p xs ≡ false → (y : A) × (y ∈ xs) × (p y ≡ false))
+        → (y : A) × (y ∈ (x ∷ xs)) × (p y ≡ false)
+    go false q e rest = (x, here refl, q)
+    go true q e rest = let (y, m, f) = rest e in (y, there m, f)
+
 module _ {A : Type 0} (eq : A → A → Bool) where
   pub occurrences-cons : (a x : A) (xs : List A) → occurrences eq a (x ∷ xs) ≡ bit (eq a x) + occurrences eq a xs
   unfolding occurrences bit
@@ -81,6 +92,14 @@ module _ {A : Type 0} (eq : A → A → Bool) where
   unfolding occurrences
   occurrences-append a [] ys = omega arith
   occurrences-append a (x ∷ xs) ys = omega (arith, occurrences-cons a x (xs ++ ys), occurrences-cons a x xs, occurrences-append a xs ys)
+
+  pub length-distinct-cons : (x : A) (xs : List A) → length (distinct eq (x ∷ xs)) ≡ bit (not (member eq x xs)) + length (distinct eq xs)
+  unfolding distinct bit
+  length-distinct-cons x xs = go (member eq x xs) (distinct eq xs)
+    where
+      go : (b : Bool) (ds : List A) → length {A = A} (elim b [ true ↦ ds | false ↦ x ∷ ds ]) ≡ bit (not b) + length ds
+      go true ds = omega arith
+      go false ds = omega arith
 
   pub member-append : (a : A) (xs ys : List A) → member eq a (xs ++ ys) ≡ (member eq a xs || member eq a ys)
   unfolding member
@@ -134,6 +153,12 @@ module _ {A : Type 0} {eq : A → A → Bool} (decides : Decides eq) where
 
   pub in-distinct-map : {B : Type 0} (f : B → A) {b : B} {xs : List B} → b ∈ xs → f b ∈ distinct eq (map f xs)
   in-distinct-map f {b} {xs} m = ⊆-distinct (map f xs) (f b) (Memᴰ·map f m)
+
+  pub length-distinct-some : (xs : List A) → 0 < length xs → 0 < length (distinct eq xs)
+  unfolding distinct member
+  length-distinct-some [] h = absurd (omega arith)
+  length-distinct-some (x ∷ []) h = omega arith
+  length-distinct-some (x ∷ y ∷ xs) h = omega (arith, length-distinct-cons eq x (y ∷ xs), length-distinct-some (y ∷ xs) (omega arith))
 
   pub length-distinct-le : (xs : List A) → length (distinct eq xs) ≤ length xs
   length-distinct-le xs = reduces-length (distinct-reduces xs)

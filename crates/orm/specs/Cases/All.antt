@@ -29,8 +29,8 @@ unfolding
     Pairing.tuples
     Limits.valueOf Limits.lowered Limits.loweredBy Limits.round Limits.upperAfter Limits.firstBelow Limits.slack Limits.runFrom Limits.run
     Diagram.isRoot Diagram.isIndependent Diagram.isMandatory Diagram.isGrouped Diagram.plays Diagram.mustPlay Diagram.allRoles Diagram.allGroups Diagram.lineOfType
-    Diagram.lineOfRole Diagram.lineOfGroup Diagram.lineOfPred Diagram.linesOfPred Diagram.lineOfCount Diagram.lines Diagram.table
-    Diagram.totals
+    Diagram.limitsRoles Diagram.roleLineOf Diagram.lineOfRole Diagram.lineOfGroup Diagram.lineOfPred Diagram.linesOfPred Diagram.lineOfCount
+    Diagram.lines Diagram.table Diagram.totals
     Supertypes.superAt Supertypes.firstAt Supertypes.lastAt Supertypes.climb Supertypes.isRootAt Supertypes.root Supertypes.firstValue Supertypes.hasRange
     Supertypes.hasRangeAt Supertypes.nearest Supertypes.lastValue
     Reader.forEach Reader.atEnd Reader.exactly
@@ -40,7 +40,7 @@ unfolding
     Text.bytes Text.key Text.separator Text.decimalWithin Text.decimal Text.valuesText Text.lineText Text.render Text.isDigit Text.digits
     Text.number Text.after Text.numbers Text.textLine Text.tableLine
     Outcome.outcomeOf Outcome.fitted Outcome.bufferAfter Outcome.written
-    Sets.firstPred Sets.firstRole Sets.firstGroup Sets.lower Sets.upperOfType Sets.upper Sets.select Sets.rolesOfType Sets.rolesInGroup
+    Sets.firstPred Sets.firstRole Sets.firstGroup Sets.lower Sets.upperOfType Sets.upperOfRole Sets.upper Sets.select Sets.rolesOfType Sets.rolesInGroup
     Sets.placedFrom Sets.placed Sets.groupSet Sets.groupRoles Sets.groupPart Sets.rolePart Sets.parts Sets.atMost Sets.onlyIf
     Sets.limitsOfRole Sets.limitsOfGroup Sets.limitOfRows Sets.limitsOfPred Sets.limitsOfType Sets.limits Sets.upperAfterRounds
     Sets.mostRounds Sets.verdictFrom
@@ -51,7 +51,7 @@ unfolding
     Populate.population
     Constraints.played Constraints.grouped Constraints.eachType Constraints.eachPred Constraints.valuesInRoles Constraints.allPlayed
     Constraints.allGrouped Constraints.sizes Constraints.membersOf Constraints.K1 Constraints.K2 Constraints.K3 Constraints.K4
-    Constraints.K5 Constraints.K6 Constraints.K7 Constraints.K8 Constraints.K9 Constraints.K10 Constraints.constraints
+    Constraints.K5 Constraints.K6 Constraints.K7 Constraints.K8 Constraints.K9 Constraints.K10 Constraints.K11 Constraints.constraints
     Constraints.firstFalse Constraints.firstBroken Constraints.answer
     Calls.diagramIn Calls.sizesBy Calls.sizesOf Calls.populationIn Calls.readCall Calls.writeCall Calls.settledInto Calls.checkCall Calls.populateCall
     Calls.validateCall

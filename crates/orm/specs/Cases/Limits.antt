@@ -10,6 +10,7 @@ use Rattle.orm.specs.Cases.All.{everything}
 -- The sets of the sample, counted from 0: a, b its types, r its predicate, p and s the roles of a and b, q the group
 sample : Diagram
 sample = record {
+  kind = 1;
   types =
       record { min = 1; max = 3; first = 1; last = 9; super = 0; indep = 0 }
       ∷ record { min = 1; max = 2; first = 1; last = 2; super = 0; indep = 0 }
@@ -17,7 +18,8 @@ sample = record {
   preds = record {
     min = 1;
     max = 100;
-    roles = record { type = 1; mand = 1; group = 1 } ∷ record { type = 2; mand = 0; group = 0 } ∷ [];
+    roles =
+        record { type = 1; mand = 1; group = 1; rmin = 1; rmax = 4096 } ∷ record { type = 2; mand = 0; group = 0; rmin = 1; rmax = 4096 } ∷ [];
     groups = record { fmin = 1; fmax = 2 } ∷ [];
   } ∷ [];
 }

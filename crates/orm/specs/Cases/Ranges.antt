@@ -6,7 +6,7 @@ use mathlib.Core.Path.{_≡_, refl}
 use mathlib.Core.List.{List, [], _∷_, _++_, map, flatten}
 use lib.ListN.{replicate}
 use Rattle.orm.specs.Text.{tableLine}
-use Rattle.orm.specs.Diagram.{Totals, totals, LineKind, diagramLine, typesLine, typeLine, predsLine, predLine, roleLine, freqLine, endLine}
+use Rattle.orm.specs.Diagram.{Totals, totals, LineKind, diagramLine, typesLine, typeLine, predsLine, predLine, roleLine, limitedRoleLine, freqLine, endLine}
 use Rattle.orm.specs.Form.{Range, _to_, unlimited, ranges}
 use Rattle.orm.specs.Outcome.{Outcome, refused, accepted, _>>=_}
 use Rattle.orm.specs.Calls.{diagramIn, readCall}
@@ -23,16 +23,17 @@ fieldsFrom k i [] = []
 fieldsFrom k i (low to high ∷ rs) = field k i low high ∷ fieldsFrom k (suc i) rs
 fieldsFrom k i (unlimited ∷ rs) = fieldsFrom k (suc i) rs
 
--- of all keys, in the order of the file
+-- of all keys, in the order of the file; those of a role line in `diagram=1`, then in `diagram=2`
 unfoldable pub rangedFields : List Field
 rangedFields = flatten (map (λ (k : LineKind). fieldsFrom k 0 (ranges k))
-    (diagramLine ∷ typesLine ∷ typeLine ∷ predsLine ∷ predLine ∷ roleLine ∷ freqLine ∷ endLine ∷ []))
+    (diagramLine ∷ typesLine ∷ typeLine ∷ predsLine ∷ predLine ∷ roleLine ∷ limitedRoleLine ∷ freqLine ∷ endLine ∷ []))
 
 -- T, P 1..32; 'Ranges: the first line 1; MIN, MAX, FMIN, FMAX 1..4096; FIRST, LAST 0..999999; SUPER 0..32 (0: none); INDEP, MAND 0..1;
--- ROLES 1..6; GROUPS 0..6; TYPE 1..32; GROUP 0..6'. There are no others: '`end` has no range of its own'
+-- ROLES 1..6; GROUPS 0..6; TYPE 1..32; GROUP 0..6'; 'RMIN and RMAX, 1..4096', and '2 now allows 1..2 on the first line' (document 02, S-8). There
+-- are no others: '`end` has no range of its own'
 abbrev pub documentRanges : List Field
 documentRanges =
-    field diagramLine 0 1 1  -- the first line
+    field diagramLine 0 1 2  -- the first line
     ∷ field typesLine 0 1 32  -- T
     ∷ field typeLine 0 1 4096  -- MIN
     ∷ field typeLine 1 1 4096  -- MAX
@@ -48,6 +49,11 @@ documentRanges =
     ∷ field roleLine 0 1 32  -- TYPE
     ∷ field roleLine 1 0 1  -- MAND
     ∷ field roleLine 2 0 6  -- GROUP
+    ∷ field limitedRoleLine 0 1 32  -- TYPE
+    ∷ field limitedRoleLine 1 0 1  -- MAND
+    ∷ field limitedRoleLine 2 0 6  -- GROUP
+    ∷ field limitedRoleLine 3 1 4096  -- RMIN
+    ∷ field limitedRoleLine 4 1 4096  -- RMAX
     ∷ field freqLine 0 1 4096  -- FMIN
     ∷ field freqLine 1 1 4096  -- FMAX
     ∷ []

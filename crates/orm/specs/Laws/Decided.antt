@@ -1,6 +1,6 @@
 -- The tests of `Constraints` decide the propositions of `Meaning`.
-use Prim.Native.Nat.{ℕ, suc, _≤_}
-use mathlib.Core.Path.{_≡_, refl, subst}
+use Prim.Native.Nat.{ℕ, suc, _+_, _≤_}
+use mathlib.Core.Path.{_≡_, refl, ap, subst, _∙_}
 use mathlib.Core.Logic.{_↔_, Iff·trans, Iff·and, Iff·not, _⊎_, inl, inr, ⊎-elim}
 use mathlib.Core.Bool.{Bool, true, false, _||_, false≢true, and-eq-true-iff}
 use mathlib.Mathlib.Data.Bool.Basic.{not-iff-not}
@@ -18,8 +18,8 @@ use Rattle.orm.specs.Diagram.{ObjectType, Role, Predicate, Diagram, isRo
 use Rattle.orm.specs.Supertypes.{hasRange}
 use Rattle.orm.specs.Form.{_to_, inRange}
 use Rattle.orm.specs.Population.{Population}
-use Rattle.orm.specs.Constraints.{Played, played, grouped, allPlayed, membersOf, valuesInRoles, eachType, eachPred, K1, K2, K3, K4, K5, K6, K7, K8, K9, K10, constraints, valid, breaks, firstFalse, firstBroken, answer}
-use Rattle.orm.specs.Meaning.{Between, EachType, EachPred, InRoleOf, HasRange, Plays, MustPlay, M1, M2, M3, M4, M5, M6, M7, M8, M9, M10, Meets}
+use Rattle.orm.specs.Constraints.{Played, played, grouped, allPlayed, membersOf, valuesInRoles, eachType, eachPred, memberCount, K1, K2, K3, K4, K5, K6, K7, K8, K9, K10, K11, constraints, Answer, valid, breaks, firstFalse, firstBroken, answer}
+use Rattle.orm.specs.Meaning.{Between, EachType, EachPred, InRoleOf, HasRange, Plays, MustPlay, M1, M2, M3, M4, M5, M6, M7, M8, M9, M10, M11, Meets}
 
 -- ---- one test
 
@@ -111,7 +111,7 @@ K5-decides : (p : Predicate) (rows : List (List ℕ)) → K5 p rows ≡ true ↔
 unfolding K5
 K5-decides p rows = allDiffer-decides same-decides rows
 
-K6-decides : (p : Predicate) (rows : List (List ℕ)) → K6 p rows ≡ true ↔ M6 p rows
+pub K6-decides : (p : Predicate) (rows : List (List ℕ)) → K6 p rows ≡ true ↔ M6 p rows
 unfolding K6
 K6-decides p rows = inRange-decides (p .min) (length rows) (p .max)
 
@@ -119,6 +119,10 @@ K9-decides : (p : Predicate) (rows : List (List ℕ)) → K9 p rows ≡ true ↔
 unfolding K9
 K9-decides p rows =
     all-decides _ (λ x. all-decides _ (λ v. inRange-decides (x .frequency .fmin) _ (x .frequency .fmax)) (x .combinations)) (grouped p rows)
+
+pub K11-decides : (p : Predicate) (rows : List (List ℕ)) → K11 p rows ≡ true ↔ M11 p rows
+unfolding K11
+K11-decides p rows = all-decides _ (λ x. inRange-decides (x .role .rmin) (memberCount x) (x .role .rmax)) (played p rows)
 
 module _ (o : Population) where
   K4-decides : (n : ℕ) (t : ObjectType) (vs : List ℕ) → K4 o t vs ≡ true ↔ M4 o n t vs
@@ -154,7 +158,7 @@ each-type-decides k e n [] os = (λ h. tt, λ h. refl)
 each-type-decides k e n (t ∷ ts) [] = (λ h. tt, λ h. refl)
 each-type-decides k e n (t ∷ ts) (vs ∷ os) = Iff·trans (and-eq-true-iff _ _) (Iff·and (e n t vs) (each-type-decides k e (suc n) ts os))
 
-each-pred-decides : (k : Predicate → List (List ℕ) → Bool) {P : Predicate → List (List ℕ) → Type 0}
+pub each-pred-decides : (k : Predicate → List (List ℕ) → Bool) {P : Predicate → List (List ℕ) → Type 0}
     → ((p : Predicate) (rows : List (List ℕ)) → k p rows ≡ true ↔ P p rows)
     → (ps : List Predicate) (os : List (List (List ℕ))) → all (λ b. b) (eachPred k ps os) ≡ true ↔ EachPred P ps os
 unfolding eachPred all
@@ -163,7 +167,7 @@ each-pred-decides k e (p ∷ ps) [] = (λ h. tt, λ h. refl)
 each-pred-decides k e (p ∷ ps) (rows ∷ os) = Iff·trans (and-eq-true-iff _ _) (Iff·and (e p rows) (each-pred-decides k e ps os))
 
 -- Each of some lists of tests passes
-abbrev Every : List (List Bool) → Type 0
+abbrev pub Every : List (List Bool) → Type 0
 Every [] = Unit {0}
 Every (l ∷ ls) = (all (λ b. b) l ≡ true) × Every ls
 
@@ -186,6 +190,30 @@ none-broken k (l ∷ ls) = go (firstFalse 1 l) (none-false 1 l) (none-broken (su
     go none e ih = (λ q. (e .1 refl, ih .0 q), λ h. ih .1 (h .1))
     go (some n) e ih = (λ q. let z : _≡_ {A = ℕ} 0 1 = cc in absurd (omega arith), λ h. absurd (some-none n (e .0 (h .0))))
 
+-- A last constraint decides where those before it hold
+pub last-broken : (k : ℕ) (ls : List (List Bool)) (l : List Bool) → _≡_ {A = Answer} (firstBroken k (ls ++ l ∷ []))
+    (elim (firstBroken k ls) [ breaks j n ↦ breaks j n | valid ↦ firstBroken (k + length ls) (l ∷ []) ])
+unfolding firstBroken
+last-broken k [] l = let e : k ≡ k + 0 = omega arith in ap (λ (j : ℕ). firstBroken j (l ∷ [])) e
+last-broken k (m ∷ ls) l = go (firstFalse 1 m) (last-broken (suc k) ls l)
+  where
+    deciding : ℕ → Answer → Answer
+    deciding at a = elim a [ breaks j n ↦ breaks j n | valid ↦ firstBroken at (l ∷ []) ]
+
+    go : (f : Option ℕ) → firstBroken (suc k) (ls ++ l ∷ []) ≡ deciding (suc k + length ls) (firstBroken (suc k) ls)
+        → _≡_ {A = Answer} (elim f [ some n ↦ breaks k n | none ↦ firstBroken (suc k) (ls ++ l ∷ []) ])
+        (deciding (k + suc (length ls)) (elim f [ some n ↦ breaks k n | none ↦ firstBroken (suc k) ls ]))
+    go none ih = let e : suc k + length ls ≡ k + suc (length ls) = omega arith in ih ∙ ap (λ (at : ℕ). deciding at (firstBroken (suc k) ls)) e
+    go (some n) ih = refl
+
+-- so that one that holds where all others do changes no answer
+pub last-idle : (k : ℕ) (ls : List (List Bool)) (l : List Bool) → (Every ls → all (λ b. b) l ≡ true) → firstBroken k (ls ++ l ∷ []) ≡ firstBroken k ls
+last-idle k ls l h = last-broken k ls l ∙ go (firstBroken k ls) refl
+  where
+    go : (a : Answer) → firstBroken k ls ≡ a → _≡_ {A = Answer} (elim a [ breaks j n ↦ breaks j n | valid ↦ firstBroken (k + length ls) (l ∷ []) ]) a
+    go (breaks j n) e = refl
+    go valid e = none-broken (k + length ls) (l ∷ []) .1 (h (none-broken k ls .0 e), tt)
+
 module _ (d : Diagram) (o : Population) where
   every-decides : Every (constraints d o) ↔ Meets d o
   unfolding constraints
@@ -201,8 +229,9 @@ module _ (d : Diagram) (o : Population) where
       let d7 = each-pred-decides (K7 o) (K7-decides o) ps (o .preds) in
       let d8 = each-pred-decides (K8 o) (K8-decides o) ps (o .preds) in
       let d9 = each-pred-decides K9 K9-decides ps (o .preds) in
-      let d10 = each-type-decides (K10 d o) (K10-decides d o) 1 ts (o .types) in (
-        λ (t1, (t2, (t3, (t4, (t5, (t6, (t7, (t8, (t9, (t10, e)))))))))). record {
+      let d10 = each-type-decides (K10 d o) (K10-decides d o) 1 ts (o .types) in
+      let d11 = each-pred-decides K11 K11-decides ps (o .preds) in (
+        λ (t1, (t2, (t3, (t4, (t5, (t6, (t7, (t8, (t9, (t10, (t11, e))))))))))). record {
           k1 = d1 .0 t1;
           k2 = d2 .0 t2;
           k3 = d3 .0 t3;
@@ -213,10 +242,12 @@ module _ (d : Diagram) (o : Population) where
           k8 = d8 .0 t8;
           k9 = d9 .0 t9;
           k10 = d10 .0 t10;
+          k11 = d11 .0 t11;
         },
         λ m.
-            let last : Every (eachType (K10 d o) 1 ts (o .types) ∷ []) = (d10 .1 (m .k10), tt) in
-            let late : Every (eachPred (K8 o) ps (o .preds) ∷ eachPred K9 ps (o .preds) ∷ eachType (K10 d o) 1 ts (o .types) ∷ []) =
+            let last : Every (eachType (K10 d o) 1 ts (o .types) ∷ eachPred K11 ps (o .preds) ∷ []) = (d10 .1 (m .k10), (d11 .1 (m .k11), tt)) in
+            let late : Every (eachPred (K8 o) ps (o .preds) ∷ eachPred K9 ps (o .preds) ∷ eachType (K10 d o) 1 ts (o .types)
+            ∷ eachPred K11 ps (o .preds) ∷ []) =
             (d8 .1 (m .k8), (d9 .1 (m .k9), last)) in
             (d1 .1 (m .k1), (d2 .1 (m .k2), (d3 .1 (m .k3), (d4 .1 (m .k4), (d5 .1 (m .k5), (d6 .1 (m .k6), (d7 .1 (m .k7), late))))))),
       )

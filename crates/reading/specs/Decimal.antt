@@ -183,3 +183,50 @@ decimal-length (suc k) x h = go (decLt x 10) (λ l. decimal-length k (x / 10) l)
     go (no n) ih =
         let long : length (decimal (x / 10)) ≤ suc k = ih (omega arith) in
         rw (decimal-large x (omega arith)) (omega (arith, length-append (decimal (x / 10)) ((48 + x % 10) ∷ [])))
+
+-- ---- a number that is read has at most 6 digits
+
+bound-suc : (k : ℕ) → bound k ≤ bound (suc k)
+unfolding bound
+bound-suc k = omega arith
+
+bound-more : (k left : ℕ) → bound k ≤ bound (k + left)
+bound-more k zero = let e : k + 0 ≡ k = omega arith in rw e (omega arith)
+bound-more k (suc left) = let e : k + suc left ≡ suc (k + left) = omega arith in rw e (omega (arith, bound-more k left, bound-suc (k + left)))
+
+digits-below : (left k v : ℕ) (s : List ℕ) {w : ℕ} {rest : List ℕ} → v < bound k → digits left v s ≡ numeral w rest → w < bound (k + left)
+unfolding digits
+digits-below left k v [] {w} h e = let z : w ≡ v = cc in omega (arith, bound-more k left)
+digits-below left k v (b ∷ s) {w} {rest} h e = go (isDigit b) refl e (λ l. digits-below l (suc k) (v * 10 + (b - 48)) s)
+  where
+    stop : w ≡ v → w < bound (k + left)
+    stop z = omega (arith, bound-more k left)
+
+    more : (l : ℕ) → left ≡ l → isDigit b ≡ true → elim l [ zero ↦ malformed | suc j ↦ digits j (v * 10 + (b - 48)) s ] ≡ numeral w rest
+        → ((j : ℕ) → v * 10 + (b - 48) < bound (suc k) → digits j (v * 10 + (b - 48)) s ≡ numeral w rest → w < bound (suc k + j)) → w < bound (k + left)
+    more zero z i e ih = let y : _≡_ {A = ℕ} 0 1 = cc in absurd (omega arith)
+    more (suc j) z i e ih =
+        let same : suc k + j ≡ k + left = omega arith in
+        rw (← same) (ih j (unfold bound in omega (arith, digit-value b i)) e)
+
+    go : (d : Bool) → isDigit b ≡ d
+        → elim d [ false ↦ numeral v (b ∷ s) | true ↦ elim left [ zero ↦ malformed | suc j ↦ digits j (v * 10 + (b - 48)) s ] ] ≡ numeral w rest
+        → ((j : ℕ) → v * 10 + (b - 48) < bound (suc k) → digits j (v * 10 + (b - 48)) s ≡ numeral w rest → w < bound (suc k + j)) → w < bound (k + left)
+    go false i e ih = stop cc
+    go true i e ih = more left refl i e ih
+
+pub number-small : (s : List ℕ) {w : ℕ} {rest : List ℕ} → number s ≡ numeral w rest → w ≤ 999999
+unfolding number
+number-small [] e = let z : _≡_ {A = ℕ} 0 1 = cc in absurd (omega arith)
+number-small (b ∷ s) {w} {rest} e = go (isDigit b) refl e
+  where
+    one-digit : isDigit b ≡ true → b - 48 < bound 1
+    one-digit i = unfold bound in omega (arith, digit-value b i)
+
+    first : (z : Bool) → isDigit b ≡ true → digits (cond z 0 5) (b - 48) s ≡ numeral w rest → w ≤ 999999
+    first true i e = let h : w < bound (1 + 0) = digits-below 0 1 (b - 48) s (one-digit i) e in unfold bound in omega arith
+    first false i e = let h : w < bound (1 + 5) = digits-below 5 1 (b - 48) s (one-digit i) e in unfold bound in omega arith
+
+    go : (d : Bool) → isDigit b ≡ d → elim d [ false ↦ malformed | true ↦ digits (cond (eqb b 48) 0 5) (b - 48) s ] ≡ numeral w rest → w ≤ 999999
+    go false i e = let z : _≡_ {A = ℕ} 0 1 = cc in absurd (omega arith)
+    go true i e = first (eqb b 48) i e

@@ -28,65 +28,76 @@ pub record Accepted (whole : Diagram → List ℕ) (s : List ℕ) (d : Diagram) 
 
 -- ---- what each step of the reading adds
 
-abbrev EndStep : List ObjectType → List Predicate → Diagram → Type 0
-EndStep ts ps d = (length (allRoles d) ≡ length (allRoles (record { types = ts; preds = ps }))) × (d ≡ record { types = ts; preds = ps })
+abbrev EndStep : ℕ → List ObjectType → List Predicate → Diagram → Type 0
+EndStep kind ts ps d =
+    (length (allRoles d) ≡ length (allRoles (record { kind = kind; types = ts; preds = ps }))) × (d ≡ record { kind = kind; types = ts; preds = ps })
 
-abbrev PredsStep : ℕ → List ObjectType → ℕ → Diagram → Type 0
-PredsStep t ts p d = NextPreds t 0 0 p (d .preds) × EndStep ts (d .preds) d
+abbrev PredsStep : ℕ → ℕ → List ObjectType → ℕ → Diagram → Type 0
+PredsStep kind t ts p d = NextPreds kind t 0 0 p (d .preds) × EndStep kind ts (d .preds) d
 
-abbrev PredCountStep : ℕ → List ObjectType → Diagram → Type 0
-PredCountStep t ts d = Between 1 (length (d .preds)) 32 × PredsStep t ts (length (d .preds)) d
+abbrev PredCountStep : ℕ → ℕ → List ObjectType → Diagram → Type 0
+PredCountStep kind t ts d = Between 1 (length (d .preds)) 32 × PredsStep kind t ts (length (d .preds)) d
 
-abbrev TypesStep : ℕ → Diagram → Type 0
-TypesStep t d = NextTypes [] t (d .types) × PredCountStep t (d .types) d
+abbrev TypesStep : ℕ → ℕ → Diagram → Type 0
+TypesStep kind t d = NextTypes [] t (d .types) × PredCountStep kind t (d .types) d
 
-abbrev TypeCountStep : Diagram → Type 0
-TypeCountStep d = Between 1 (length (d .types)) 32 × TypesStep (length (d .types)) d
+abbrev TypeCountStep : ℕ → Diagram → Type 0
+TypeCountStep kind d = Between 1 (length (d .types)) 32 × TypesStep kind (length (d .types)) d
 
-all-preds-iff : (t p : ℕ) (ps : List Predicate) → NextPreds t 0 0 p ps ↔ PredsForm t 0 0 p ps
-all-preds-iff t p ps = next-preds-iff t 0 0 p ps (lit≤ tt) (lit≤ tt)
+all-preds-iff : (kind t p : ℕ) (ps : List Predicate) → NextPreds kind t 0 0 p ps ↔ PredsForm kind t 0 0 p ps
+all-preds-iff kind t p ps = next-preds-iff kind t 0 0 p ps (lit≤ tt) (lit≤ tt)
 
-known-end : (ts : List ObjectType) (ps : List Predicate) (n : ℕ) (d : Diagram) → n ≡ length (allRoles (record { types = ts; preds = ps }))
-    → d ≡ record { types = ts; preds = ps } → length (allRoles d) ≡ n
-known-end ts ps n d e q = ap (λ (x : Diagram). length (allRoles x)) q ∙ sym e
+known-end : (kind : ℕ) (ts : List ObjectType) (ps : List Predicate) (n : ℕ) (d : Diagram)
+    → n ≡ length (allRoles (record { kind = kind; types = ts; preds = ps })) → d ≡ record { kind = kind; types = ts; preds = ps }
+    → length (allRoles d) ≡ n
+known-end kind ts ps n d e q = ap (λ (x : Diagram). length (allRoles x)) q ∙ sym e
 
-diagram-forms : (d : Diagram) → (Between 1 1 1 × TypeCountStep d) ↔ WellFormed d
+diagram-forms : (d : Diagram) → (Between 1 (d .kind) 2 × TypeCountStep (d .kind) d) ↔ WellFormed d
 unfolding allRoles allGroups
 diagram-forms d = (
-  λ (_, (typeCount, (types, (predCount, (preds, _))))).
-      let ps = all-preds-iff (length (d .types)) (length (d .preds)) (d .preds) .0 preds in
+  λ (kinds, (typeCount, (types, (predCount, (preds, _))))).
+      let ps = all-preds-iff (d .kind) (length (d .types)) (length (d .preds)) (d .preds) .0 preds in
       record {
+        kinds = kinds;
         typeCount = typeCount;
         predCount = predCount;
         roleCount = omega (arith, ps .roleTotal);
         groupCount = omega (arith, ps .groupTotal);
         types = all-types-iff (d .types) .0 types;
         preds = ps .each;
+        limits = ps .limits;
       },
   λ w.
-      let ps : PredsForm (length (d .types)) 0 0 (length (d .preds)) (d .preds) =
-      record { counted = refl; each = w .preds; roleTotal = omega (arith, w .roleCount); groupTotal = omega (arith, w .groupCount) } in
+      let ps : PredsForm (d .kind) (length (d .types)) 0 0 (length (d .preds)) (d .preds) =
+      record {
+        counted = refl;
+        each = w .preds;
+        limits = w .limits;
+        roleTotal = omega (arith, w .roleCount);
+        groupTotal = omega (arith, w .groupCount);
+      } in
       let types = all-types-iff (d .types) .1 (w .types) in
-      let preds = all-preds-iff (length (d .types)) (length (d .preds)) (d .preds) .1 ps in
-      (omega arith, (w .typeCount, (types, (w .predCount, (preds, (refl, refl)))))),
+      let preds = all-preds-iff (d .kind) (length (d .types)) (length (d .preds)) (d .preds) .1 ps in
+      (w .kinds, (w .typeCount, (types, (w .predCount, (preds, (refl, refl)))))),
 )
 
 module _ (form : LineKind → List ℕ → List ℕ) (next : LineKind → List ℕ → Cut) (cuts : Cuts form next) where
-  diagram-exact : Exact form (diagramLines next) WellFormed lines
+  pub diagram-exact : Exact form (diagramLines next) WellFormed lines
   unfolding diagramLines allRoles lines
   diagram-exact = exact-as form diagram-forms (λ d w. rw append-assoc)
-      (bind-exact form _ _ (λ d. 1) (λ one d w e. omega arith) (count-exact form next cuts diagramLine 1 1 (unfold ranges in refl) (lit≤ tt))
-      (λ one w. bind-exact form _ _ (λ d. length (d .types)) (λ t d w e. next-types-length [] t (d .types) (e .0))
+      (bind-exact form _ _ (λ d. d .kind) (λ kind d w e. ap (λ (x : Diagram). x .kind) (e .1 .1 .1 .1 .1))
+      (count-exact form next cuts diagramLine 1 2 (unfold ranges in refl) (lit≤ tt))
+      (λ kind some-kind. bind-exact form _ _ (λ d. length (d .types)) (λ t d w e. next-types-length [] t (d .types) (e .0))
       (count-exact form next cuts typesLine 1 32 (unfold ranges in refl) (lit≤ tt))
       (λ t some-types. bind-exact form _ _ (λ d. d .types) (λ ts d w e. ap (λ (x : Diagram). x .types) (e .1 .1 .1))
       (types-exact form next cuts [] t (omega (arith, some-types .1)))
-      (λ ts w. bind-exact form _ _ (λ d. length (d .preds)) (λ p d w e. all-preds-iff t p (d .preds) .0 (e .0) .counted)
+      (λ ts w. bind-exact form _ _ (λ d. length (d .preds)) (λ p d w e. all-preds-iff kind t p (d .preds) .0 (e .0) .counted)
       (count-exact form next cuts predsLine 1 32 (unfold ranges in refl) (lit≤ tt))
       (λ p w. bind-exact form _ _ (λ d. d .preds) (λ ps d w e. ap (λ (x : Diagram). x .preds) (e .1))
-      (predicates-exact form next cuts t 0 0 p (some-types .1))
-      (λ ps w. bind-exact form _ _ (λ d. length (allRoles d)) (known-end ts ps)
-      (end-exact form next cuts _ (omega (arith, all-preds-iff t p ps .0 w .roleTotal)))
-      (λ n w. pure-exact form (record { types = ts; preds = ps }))))))))
+      (predicates-exact form next cuts kind t 0 0 p some-kind (some-types .1))
+      (λ ps w. bind-exact form _ _ (λ d. length (allRoles d)) (known-end kind ts ps)
+      (end-exact form next cuts _ (omega (arith, all-preds-iff kind t p ps .0 w .roleTotal)))
+      (λ n w. pure-exact form (record { kind = kind; types = ts; preds = ps }))))))))
 
   abbrev whole : Diagram → List ℕ
   whole d = written form (lines d)

@@ -1,6 +1,6 @@
 -- What a line of each kind must hold, as facts: type, predicate, role, freq lines and lines with a count.
 use Prim.Native.Nat.{ℕ, _+_, _≤_}
-use mathlib.Core.Path.{_≡_, refl, ap}
+use mathlib.Core.Path.{_≡_, refl, sym, ap, ap₂}
 use mathlib.Core.Logic.{_↔_, Iff·trans, Iff·and}
 use mathlib.Core.Bool.{Bool, true, false, _||_, false≢true, and-eq-true-iff}
 use mathlib.Core.Option.{some}
@@ -15,17 +15,17 @@ use Rattle.counting.specs.Laws.Distinct.{all-decides}
 use Rattle.counting.specs.Terms.{_∈_}
 use Rattle.counting.specs.Laws.Members.{each-nil, each-cons}
 use Rattle.counting.specs.Laws.Instances.{eqb-decides}
-use Rattle.orm.specs.Diagram.{ObjectType, Role, Frequency, LineKind, typeLine, predLine, roleLine, freqLine, endLine, lineOfType, lineOfRole, lineOfGroup, lineOfCount, isRoot, index}
+use Rattle.orm.specs.Diagram.{ObjectType, Role, Frequency, LineKind, typeLine, predLine, limitedRoleLine, freqLine, endLine, limitsRoles, roleLineOf, lineOfType, lineOfRole, lineOfGroup, lineOfCount, isRoot, index}
 use Rattle.orm.specs.Supertypes.{firstValue, hasRange, lastValue}
 use Rattle.orm.specs.Reader.{rejected, read, Cut}
 use Rattle.orm.specs.Form.{_to_, ranges, fields, inRanges, firstOf, countOf, typeOf, roleOf, groupOf, PredHead, headOf, withinSuper, valuesInOrder, typeTests, predTests, roleTests, named, groupTests, endTests, mostRoles, mostGroups, line, count}
 use Rattle.orm.specs.Meaning.{Between, HasRange}
 use Rattle.orm.specs.Laws.Decided.{leb-decides, if-decides, hasRange-decides}
-use Rattle.orm.specs.WellFormed.{TypeForm, RoleForm, GroupForm}
+use Rattle.orm.specs.WellFormed.{TypeForm, RoleForm, OfKind, GroupForm}
 use Rattle.reading.specs.Exact.{written, Exact, exact-as}
 use Rattle.reading.specs.TextLength.{first-small}
-use Rattle.reading.specs.Spelling.{lineOfHead, type-spelling, role-spelling, group-spelling, head-spelling, count-spelling}
-use Rattle.reading.specs.Lines.{InRanges, Small, isSmall, in-ranges-small, Cuts, Spelling, LineForm, tested-decides, line-only, line-refused, line-exact}
+use Rattle.reading.specs.Spelling.{lineOfHead, roleLineBy, roleBy, roleValuesBy, type-spelling, role-spelling, group-spelling, head-spelling, count-spelling}
+use Rattle.reading.specs.Lines.{InRanges, Passed, Small, isSmall, in-ranges-small, Cuts, Spelling, LineForm, tested-decides, line-only, line-refused, line-exact}
 
 -- Every kind of line but `end` has no range above 6 digits
 small-ranges : (k : LineKind) (vs : List ℕ) → all isSmall (ranges k) ≡ true → length vs ≡ fields k
@@ -85,7 +85,7 @@ module _ (form : LineKind → List ℕ → List ℕ) (next : LineKind → List �
       → line next typeLine typeOf (typeTests own before) n (written form (lineOfType t ∷ []) ++ rest) ≡ rejected c n
   unfolding firstOf
   type-refused own before t ranged =
-      line-refused form next cuts typeLine typeOf (typeTests own before) lineOfType type-spelling t
+      line-refused form next cuts typeLine typeOf (typeTests own before) lineOfType type-spelling t (unfold lineOfType in refl)
       (small-ranges typeLine _ (unfold all isSmall ranges in refl) (type-spelling .counted t)
       (tested-decides typeLine (lineOfType t .values) [] .0 (rw ranged) .0))
       ranged
@@ -99,9 +99,9 @@ module _ (form : LineKind → List ℕ → List ℕ) (next : LineKind → List �
       (line-exact form next cuts typeLine typeOf (typeTests own before) lineOfType type-spelling
       (λ t w. small-ranges typeLine _ (unfold all isSmall in refl) (type-spelling .counted t) (w .0)))
     where
-      forms : (t : ObjectType) → LineForm typeLine (typeTests own before) lineOfType t ↔ TypeForm before own t
+      forms : (t : ObjectType) → LineForm typeLine typeOf (typeTests own before) lineOfType t ↔ TypeForm before own t
       forms t = (
-        λ ((min, (max, (first, (last, (super, (indep, _)))))), (above, (sizes, (values, _)))). let v = values-decides before t .0 values in record {
+        λ ((min, (max, (first, (last, (super, (indep, _)))))), ((above, (sizes, (values, _))), _)). let v = values-decides before t .0 values in record {
           some = min .0;
           sizes = leb-true (t .min) (t .max) sizes;
           most = max .1;
@@ -113,28 +113,85 @@ module _ (form : LineKind → List ℕ → List ℕ) (next : LineKind → List �
         },
         λ f. let first : t .first ≤ 999999 = first-small before own t f in (
           (omega arith, (omega arith, (omega arith, (omega arith, (omega arith, (omega arith, tt)))))),
-          (lt-ltb (t .super) own (f .above), (le-leb (t .min) (t .max) (f .sizes), (values-decides before t .1 (λ r. (f .values r, f .within r)), tt))),
+          (
+            (lt-ltb (t .super) own (f .above), (le-leb (t .min) (t .max) (f .sizes), (values-decides before t .1 (λ r. (f .values r, f .within r)), tt))),
+            refl,
+          ),
         ),
       )
 
-  -- A role, under so many types and groups
-  pub role-exact : (types groups : ℕ) → types ≤ 32 → groups ≤ 6
-      → Exact form (line next roleLine roleOf (roleTests types groups)) (RoleForm types groups) (λ (r : Role). lineOfRole r ∷ [])
-  unfolding roleTests ranges lineOfRole
-  role-exact types groups t g =
-      exact-as form forms (λ r w. refl)
-      (line-exact form next cuts roleLine roleOf (roleTests types groups) lineOfRole role-spelling
-      (λ r w. small-ranges roleLine _ (unfold all isSmall in refl) (role-spelling .counted r) (w .0)))
+  -- A role with RMIN and RMAX whose numbers are in their ranges and that fails a test
+  pub role-refused : (types groups : ℕ) (r : Role) → inRanges (ranges limitedRoleLine) (lineOfRole 2 r .values) ≡ true → {c : ℕ}
+      → firstOf (roleTests types groups r) ≡ some c → (n : ℕ) (rest : List ℕ)
+      → line next (roleLineOf 2) (roleOf 2) (roleTests types groups) n (written form (lineOfRole 2 r ∷ []) ++ rest) ≡ rejected c n
+  unfolding firstOf roleLineOf limitsRoles
+  role-refused types groups r ranged =
+      line-refused form next cuts (roleLineOf 2) (roleOf 2) (roleTests types groups) (lineOfRole 2) (role-spelling 2) r (unfold lineOfRole in refl)
+      (small-ranges limitedRoleLine _ (unfold all isSmall ranges in refl) (role-spelling 2 .counted r)
+      (tested-decides limitedRoleLine (lineOfRole 2 r .values) [] .0 (rw ranged) .0))
+      ranged
+
+  -- A role, in a diagram of this kind, under so many types and groups
+  pub role-exact : (kind types groups : ℕ) → Between 1 kind 2 → types ≤ 32 → groups ≤ 6
+      → Exact form (line next (roleLineOf kind) (roleOf kind) (roleTests types groups)) (λ (r : Role). RoleForm types groups r × OfKind kind r)
+      (λ (r : Role). lineOfRole kind r ∷ [])
+  unfolding roleTests ranges lineOfRole roleLineOf
+  role-exact kind types groups between t g =
+      exact-as form (λ r. forms r (limitsRoles kind) refl) (λ r w. refl)
+      (line-exact form next cuts (roleLineOf kind) (roleOf kind) (roleTests types groups) (lineOfRole kind) (role-spelling kind)
+      (λ r w. small-ranges (roleLineOf kind) _ (small (limitsRoles kind)) (role-spelling kind .counted r) (w .0)))
     where
-      forms : (r : Role) → LineForm roleLine (roleTests types groups) lineOfRole r ↔ RoleForm types groups r
-      forms r = (
-        λ ((type, (mand, (group, _))), (below, (within, _))). record {
-          player = (type .0, leb-true (r .type) types below);
-          mand = mand .1;
-          group = leb-true (r .group) groups within;
-        },
-        λ f. ((omega arith, (omega arith, (omega arith, tt))), (le-leb (r .type) types (f .player .1), (le-leb (r .group) groups (f .group), tt))),
-      )
+      passed : (r : Role) → RoleForm types groups r → Passed (roleTests types groups r)
+      passed r f =
+          (le-leb (r .type) types (f .player .1), (le-leb (r .group) groups (f .group), (le-leb (r .rmin) (r .rmax) (f .limits), tt)))
+
+      small : (b : Bool) → all isSmall (ranges (roleLineBy b)) ≡ true
+      small true = unfold all isSmall in refl
+      small false = unfold all isSmall in refl
+
+      forms : (r : Role) (b : Bool) → limitsRoles kind ≡ b
+          → (InRanges (ranges (roleLineBy b)) (roleValuesBy b r) × (Passed (roleTests types groups r) × (roleBy b (roleValuesBy b r) ≡ r)))
+          ↔ (RoleForm types groups r × OfKind kind r)
+      forms r true e =
+          let two : kind ≡ 2 = unfold limitsRoles in eqb-true kind 2 e in (
+            λ ((type, (mand, (group, (rmin, (rmax, _))))), ((below, (within, (order, _))), _)). (
+              record {
+                player = (type .0, leb-true (r .type) types below);
+                mand = mand .1;
+                group = leb-true (r .group) groups within;
+                some = rmin .0;
+                limits = leb-true (r .rmin) (r .rmax) order;
+                most = rmax .1;
+              },
+              λ one. absurd (omega arith),
+            ),
+            λ (f, _). ((omega arith, (omega arith, (omega arith, (omega arith, (omega arith, tt))))), (passed r f, refl)),
+          )
+      forms r false e =
+          let not-two : ¬ (kind ≡ 2) = unfold limitsRoles in eqb-false kind 2 e in
+          let one : kind ≡ 1 = omega arith in (
+            λ ((type, (mand, (group, _))), ((below, (within, (order, _))), whole)).
+                let fewest : 1 ≡ r .rmin = ap (λ (x : Role). x .rmin) whole in
+                let most : 4096 ≡ r .rmax = ap (λ (x : Role). x .rmax) whole in (
+                  record {
+                    player = (type .0, leb-true (r .type) types below);
+                    mand = mand .1;
+                    group = leb-true (r .group) groups within;
+                    some = omega arith;
+                    limits = leb-true (r .rmin) (r .rmax) order;
+                    most = omega arith;
+                  },
+                  λ _. (sym fewest, sym most),
+                ),
+            λ (f, k).
+                let (fewest, most) = k one in (
+                  (omega arith, (omega arith, (omega arith, tt))),
+                  (
+                    passed r f,
+                    ap₂ (λ (x y : ℕ). record { type = r .type; mand = r .mand; group = r .group; rmin = x; rmax = y }) (sym fewest) (sym most),
+                  ),
+                ),
+          )
 
   -- The frequency group with this number, among these roles
   pub group-exact : (roles : List Role) (number : ℕ)
@@ -146,15 +203,15 @@ module _ (form : LineKind → List ℕ → List ℕ) (next : LineKind → List �
       (λ f w. small-ranges freqLine _ (unfold all isSmall in refl) (group-spelling .counted f) (w .0)))
     where
       forms : (f : Frequency)
-          → LineForm freqLine (groupTests roles number) lineOfGroup f ↔ GroupForm roles number f
+          → LineForm freqLine groupOf (groupTests roles number) lineOfGroup f ↔ GroupForm roles number f
       forms f = (
-        λ ((fmin, (fmax, _)), (counts, (names, _))). record {
+        λ ((fmin, (fmax, _)), ((counts, (names, _)), _)). record {
           some = fmin .0;
           counts = leb-true (f .fmin) (f .fmax) counts;
           most = fmax .1;
           named = named-decides number roles .0 names;
         },
-        λ g. ((omega arith, (omega arith, tt)), (le-leb (f .fmin) (f .fmax) (g .counts), (named-decides number roles .1 (g .named), tt))),
+        λ g. ((omega arith, (omega arith, tt)), ((le-leb (f .fmin) (f .fmax) (g .counts), (named-decides number roles .1 (g .named), tt)), refl)),
       )
 
   -- A `pred` line, after so many roles and groups
@@ -167,9 +224,9 @@ module _ (form : LineKind → List ℕ → List ℕ) (next : LineKind → List �
       (λ h w. small-ranges predLine _ (unfold all isSmall in refl) (head-spelling .counted h) (w .0)))
     where
       forms : (h : PredHead)
-          → LineForm predLine (predTests roles groups) lineOfHead h ↔ HeadForm roles groups h
+          → LineForm predLine headOf (predTests roles groups) lineOfHead h ↔ HeadForm roles groups h
       forms h = (
-        λ ((min, (max, (arity, (few, _)))), (roleTotal, (groupTotal, (sizes, _)))). record {
+        λ ((min, (max, (arity, (few, _)))), ((roleTotal, (groupTotal, (sizes, _))), _)). record {
           some = min .0;
           sizes = leb-true (h .min) (h .max) sizes;
           most = max .1;
@@ -180,14 +237,17 @@ module _ (form : LineKind → List ℕ → List ℕ) (next : LineKind → List �
         },
         λ f. (
           (omega arith, (omega arith, (omega arith, (omega arith, tt)))),
-          (le-leb (roles + h .roles) 96 (f .roleTotal), (le-leb (groups + h .groups) 48 (f .groupTotal), (le-leb (h .min) (h .max) (f .sizes), tt))),
+          (
+            (le-leb (roles + h .roles) 96 (f .roleTotal), (le-leb (groups + h .groups) 48 (f .groupTotal), (le-leb (h .min) (h .max) (f .sizes), tt))),
+            refl,
+          ),
         ),
       )
 
   -- A line with one number that has no test but its range
   pub count-exact : (k : LineKind) (low high : ℕ) → ranges k ≡ low to high ∷ [] → high ≤ 999999
       → Exact form (count next k) (λ (n : ℕ). Between low n high) (λ (n : ℕ). lineOfCount k n ∷ [])
-  unfolding count fields lineOfCount
+  unfolding count countOf fields lineOfCount
   count-exact k low high e bound =
       exact-as form forms (λ n w. refl)
       (line-exact form next cuts k countOf (λ n. []) (lineOfCount k) spelling
@@ -196,13 +256,13 @@ module _ (form : LineKind → List ℕ → List ℕ) (next : LineKind → List �
       spelling : Spelling k countOf (lineOfCount k)
       spelling = count-spelling k (ap length e)
 
-      forms : (n : ℕ) → LineForm k (λ n. []) (lineOfCount k) n ↔ Between low n high
-      forms n = rw e (λ h. h .0 .0, λ h. ((h, tt), tt))
+      forms : (n : ℕ) → LineForm k countOf (λ n. []) (lineOfCount k) n ↔ Between low n high
+      forms n = rw e (λ h. h .0 .0, λ h. ((h, tt), (tt, refl)))
 
   -- The `end` line, after so many roles
   pub end-exact : (roles : ℕ) → roles ≤ 96
       → Exact form (line next endLine countOf (endTests roles)) (λ (n : ℕ). n ≡ roles) (λ (n : ℕ). lineOfCount endLine n ∷ [])
-  unfolding endTests ranges fields lineOfCount
+  unfolding endTests countOf ranges fields lineOfCount
   end-exact roles bound =
       exact-as form forms (λ n w. refl)
       (line-exact form next cuts endLine countOf (endTests roles) (lineOfCount endLine) spelling
@@ -211,8 +271,8 @@ module _ (form : LineKind → List ℕ → List ℕ) (next : LineKind → List �
       spelling : Spelling endLine countOf (lineOfCount endLine)
       spelling = count-spelling endLine refl
 
-      forms : (n : ℕ) → LineForm endLine (endTests roles) (lineOfCount endLine) n ↔ (n ≡ roles)
-      forms n = (λ h. eqb-true n roles (h .1 .0), λ e. ((omega arith, tt), (eq-eqb n roles e, tt)))
+      forms : (n : ℕ) → LineForm endLine countOf (endTests roles) (lineOfCount endLine) n ↔ (n ≡ roles)
+      forms n = (λ h. eqb-true n roles (h .1 .0 .0), λ e. ((omega arith, tt), ((eq-eqb n roles e, tt), refl)))
 
 -- The number of an `end` line that was read is that of the roles, however many
 pub end-only : {form : LineKind → List ℕ → List ℕ} (next : LineKind → List ℕ → Cut) (cuts : Cuts form next) (roles n : ℕ) (s : List ℕ)
@@ -220,4 +280,4 @@ pub end-only : {form : LineKind → List ℕ → List ℕ} (next : LineKind → 
 unfolding endTests ranges fields
 end-only {form} next cuts roles n s {a} {n′} {rest} e =
     let h = line-only form next cuts endLine countOf (endTests roles) (lineOfCount endLine) (count-spelling endLine refl) n s a n′ rest e in
-    eqb-true a roles (h .valid .1 .0)
+    eqb-true a roles (h .valid .1 .0 .0)

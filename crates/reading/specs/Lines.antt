@@ -86,22 +86,27 @@ pub record Cuts (form : LineKind → List ℕ → List ℕ) (next : LineKind →
 -- The numbers of a line of this kind, and what is made of them
 pub record Spelling {A : Type 0} (k : LineKind) (make : List ℕ → A) (lineOf : A → Line) : Type 0 where
   pub spelled : (v : List ℕ) → length v ≡ fields k → lineOf (make v) ≡ record { kind = k; values = v }
-  pub made : (a : A) → make (lineOf a .values) ≡ a
   pub kind : (a : A) → lineOf a .kind ≡ k
   pub counted : (a : A) → length (lineOf a .values) ≡ fields k
 
--- The numbers on the line of `a` are in their ranges, and `a` passes its tests
-abbrev pub LineForm : {A : Type 0} → LineKind → (A → List Test) → (A → Line) → A → Type 0
-LineForm k tests lineOf a = InRanges (ranges k) (lineOf a .values) × Passed (tests a)
+-- The numbers on the line of `a` are in their ranges, `a` passes its tests, and is what is made of them: they say all of it
+abbrev pub LineForm : {A : Type 0} → LineKind → (List ℕ → A) → (A → List Test) → (A → Line) → A → Type 0
+LineForm k make tests lineOf a = InRanges (ranges k) (lineOf a .values) × (Passed (tests a) × (make (lineOf a .values) ≡ a))
 
 pub tested-decides : (k : LineKind) (v : List ℕ) (ts : List Test)
     → firstOf (2 unless inRanges (ranges k) v ∷ ts) ≡ none ↔ (InRanges (ranges k) v × Passed ts)
 tested-decides k v ts = Iff·trans (passed-decides _) (λ h. (inRanges-decides _ v .0 (h .0), h .1), λ h. (inRanges-decides _ v .1 (h .0), h .1))
 
+-- A line that is cut off and has a number out of its range
+pub out-of-range : {A : Type 0} (next : LineKind → List ℕ → Cut) (k : LineKind) (make : List ℕ → A) (tests : A → List Test) (n : ℕ) (s v rest : List ℕ)
+    → next k s ≡ cut v rest → inRanges (ranges k) v ≡ false → line next k make tests n s ≡ rejected 2 n
+unfolding line firstOf
+out-of-range next k make tests n s v rest e q = rw (e, q, firstOf, line) refl
+
 module _ (form : LineKind → List ℕ → List ℕ) (next : LineKind → List ℕ → Cut) (cuts : Cuts form next)
     {A : Type 0} (k : LineKind) (make : List ℕ → A) (tests : A → List Test) (lineOf : A → Line) (spelling : Spelling k make lineOf) where
   abbrev Form : A → Type 0
-  Form a = LineForm k tests lineOf a
+  Form a = LineForm k make tests lineOf a
 
   abbrev Found : ℕ → List ℕ → A → ℕ → List ℕ → Type 0
   Found n s a n′ rest = Read form Form (λ (a : A). lineOf a ∷ []) n s a n′ rest
@@ -124,7 +129,9 @@ module _ (form : LineKind → List ℕ → List ℕ) (next : LineKind → List �
           let same-rest : rest ≡ r = cc in
           let is-line : lineOf (make v) ≡ record { kind = k; values = v } = spelling .spelled v (c .0) in
           let t = tested-decides k v (tests (make v)) .0 q in
-          rw (same-a, same-n, same-rest) (record { valid = rw is-line t; from = rw (written-one, is-line) (c .1); place = omega arith })
+          let whole : make (lineOf (make v) .values) ≡ make v = ap (λ (l : Line). make (l .values)) is-line in
+          rw (same-a, same-n, same-rest)
+          (record { valid = (rw is-line (t .0), (t .1, whole)); from = rw (written-one, is-line) (c .1); place = omega arith })
 
       go : (c : Cut) → next k s ≡ c
           → elim c [ broken ↦ rejected 1 n | cut v r ↦ tested (firstOf (2 unless inRanges (ranges k) v ∷ tests (make v))) v r ] ≡ read a n′ rest
@@ -144,21 +151,21 @@ module _ (form : LineKind → List ℕ → List ℕ) (next : LineKind → List �
   unfolding line
   line-fails n s v rest e q = rw (e, q, line) refl
 
-  -- the line of `a`, whose numbers are in their ranges
-  pub line-refused : (a : A) → Small (lineOf a .values) → inRanges (ranges k) (lineOf a .values) ≡ true → {c : ℕ} → firstOf (tests a) ≡ some c
-      → (n : ℕ) (rest : List ℕ) → line next k make tests n (written form (lineOf a ∷ []) ++ rest) ≡ rejected c n
-  line-refused a small ranged {c} fails n rest =
+  -- the line of `a`, whose numbers say all of it and are in their ranges
+  pub line-refused : (a : A) → make (lineOf a .values) ≡ a → Small (lineOf a .values) → inRanges (ranges k) (lineOf a .values) ≡ true → {c : ℕ}
+      → firstOf (tests a) ≡ some c → (n : ℕ) (rest : List ℕ) → line next k make tests n (written form (lineOf a ∷ []) ++ rest) ≡ rejected c n
+  line-refused a whole small ranged {c} fails n rest =
       let v = lineOf a .values in
       let test : firstOf (2 unless inRanges (ranges k) v ∷ tests (make v)) ≡ some c =
-      passes 2 ranged _ ∙ ap (λ (b : A). firstOf (tests b)) (spelling .made a) ∙ fails in
+      passes 2 ranged _ ∙ ap (λ (b : A). firstOf (tests b)) whole ∙ fails in
       rw (written-one, spelling .kind) (line-fails n _ v rest (cuts .every k v rest (spelling .counted a) small) test)
 
   line-every : ((a : A) → Form a → Small (lineOf a .values)) → (a : A) → Form a → (n : ℕ) (rest : List ℕ)
       → line next k make tests n (written form (lineOf a ∷ []) ++ rest) ≡ read a (n + 1) rest
   line-every small a w n rest =
       let v = lineOf a .values in
-      let same-a : make v ≡ a = spelling .made a in
-      let test : firstOf (2 unless inRanges (ranges k) v ∷ tests (make v)) ≡ none = rw same-a (tested-decides k v (tests a) .1 w) in
+      let same-a : make v ≡ a = w .1 .1 in
+      let test : firstOf (2 unless inRanges (ranges k) v ∷ tests (make v)) ≡ none = rw same-a (tested-decides k v (tests a) .1 (w .0, w .1 .0)) in
       rw (written-one, spelling .kind, add-one)
       (line-read n _ v rest (cuts .every k v rest (spelling .counted a) (small a w)) test ∙ ap (λ (b : A). read b (suc n) rest) same-a)
 

@@ -1,9 +1,10 @@
 -- The numbers on a line of each kind, and what is made of them.
 use Prim.Native.Nat.{ℕ, suc}
-use mathlib.Core.Path.{_≡_, refl, sym, _∙_, subst}
+use mathlib.Core.Path.{_≡_, refl, sym, ap, _∙_, subst}
+use mathlib.Core.Bool.{Bool, true, false}
 use mathlib.Core.List.{List, [], _∷_}
-use lib.ListN.{length}
-use Rattle.orm.specs.Diagram.{LineKind, typeLine, predLine, roleLine, freqLine, Line, lineOfType, lineOfRole, lineOfGroup, lineOfCount}
+use lib.ListN.{length, getD}
+use Rattle.orm.specs.Diagram.{Role, LineKind, typeLine, predLine, roleLine, limitedRoleLine, freqLine, Line, limitsRoles, roleLineOf, lineOfType, lineOfRole, lineOfGroup, lineOfCount}
 use Rattle.orm.specs.Form.{ranges, fields, countOf, typeOf, roleOf, groupOf, PredHead, headOf}
 use Rattle.reading.specs.Lines.{Spelling}
 
@@ -20,8 +21,11 @@ type-spelled : (v : List ℕ) → Spelled 6 v → lineOfType (typeOf v) ≡ reco
 unfolding lineOfType
 type-spelled v (one (one (one (one (one (one end)))))) = refl
 
-role-spelled : (v : List ℕ) → Spelled 3 v → lineOfRole (roleOf v) ≡ record { kind = roleLine; values = v }
-unfolding lineOfRole
+-- with RMIN and RMAX, and without
+limited-spelled : (v : List ℕ) → Spelled 5 v → getD v 0 0 ∷ getD v 1 0 ∷ getD v 2 0 ∷ getD v 3 0 ∷ getD v 4 0 ∷ [] ≡ v
+limited-spelled v (one (one (one (one (one end))))) = refl
+
+role-spelled : (v : List ℕ) → Spelled 3 v → getD v 0 0 ∷ getD v 1 0 ∷ getD v 2 0 ∷ [] ≡ v
 role-spelled v (one (one (one end))) = refl
 
 group-spelled : (v : List ℕ) → Spelled 2 v → lineOfGroup (groupOf v) ≡ record { kind = freqLine; values = v }
@@ -43,22 +47,51 @@ head-spelled v (one (one (one (one end)))) = refl
 pub type-spelling : Spelling typeLine typeOf lineOfType
 unfolding lineOfType fields ranges
 type-spelling =
-    record { spelled = λ v l. type-spelled v (subst (λ m. Spelled m v) l (spell v)); made = λ a. refl; kind = λ a. refl; counted = λ a. refl }
+    record { spelled = λ v l. type-spelled v (subst (λ m. Spelled m v) l (spell v)); kind = λ a. refl; counted = λ a. refl }
 
-pub role-spelling : Spelling roleLine roleOf lineOfRole
-unfolding lineOfRole fields ranges
-role-spelling =
-    record { spelled = λ v l. role-spelled v (subst (λ m. Spelled m v) l (spell v)); made = λ a. refl; kind = λ a. refl; counted = λ a. refl }
+-- A role line with RMIN and RMAX or without: its kind, what is made of its numbers, and its numbers
+abbrev pub roleLineBy : Bool → LineKind
+roleLineBy limited = elim limited [ true ↦ limitedRoleLine | false ↦ roleLine ]
+
+abbrev pub roleBy : Bool → List ℕ → Role
+roleBy limited v = record {
+  type = getD v 0 0;
+  mand = getD v 1 0;
+  group = getD v 2 0;
+  rmin = elim limited [ true ↦ getD v 3 0 | false ↦ 1 ];
+  rmax = elim limited [ true ↦ getD v 4 0 | false ↦ 4096 ];
+}
+
+abbrev pub roleValuesBy : Bool → Role → List ℕ
+roleValuesBy limited r = r .type ∷ r .mand ∷ r .group ∷ elim limited [ true ↦ r .rmin ∷ r .rmax ∷ [] | false ↦ [] ]
+
+spelling-by : (b : Bool) → Spelling (roleLineBy b) (roleBy b) (λ r. record { kind = roleLineBy b; values = roleValuesBy b r })
+unfolding fields ranges
+spelling-by true = record {
+  spelled = λ v l. ap (λ (vs : List ℕ). record { kind = limitedRoleLine; values = vs }) (limited-spelled v (subst (λ m. Spelled m v) l (spell v)));
+  kind = λ a. refl;
+  counted = λ a. refl;
+}
+spelling-by false = record {
+  spelled = λ v l. ap (λ (vs : List ℕ). record { kind = roleLine; values = vs }) (role-spelled v (subst (λ m. Spelled m v) l (spell v)));
+  kind = λ a. refl;
+  counted = λ a. refl;
+}
+
+-- In a diagram of this kind
+pub role-spelling : (kind : ℕ) → Spelling (roleLineOf kind) (roleOf kind) (lineOfRole kind)
+unfolding roleLineOf lineOfRole
+role-spelling kind = spelling-by (limitsRoles kind)
 
 pub group-spelling : Spelling freqLine groupOf lineOfGroup
 unfolding lineOfGroup fields ranges
 group-spelling =
-    record { spelled = λ v l. group-spelled v (subst (λ m. Spelled m v) l (spell v)); made = λ a. refl; kind = λ a. refl; counted = λ a. refl }
+    record { spelled = λ v l. group-spelled v (subst (λ m. Spelled m v) l (spell v)); kind = λ a. refl; counted = λ a. refl }
 
 pub head-spelling : Spelling predLine headOf lineOfHead
 unfolding lineOfHead fields ranges
 head-spelling =
-    record { spelled = λ v l. head-spelled v (subst (λ m. Spelled m v) l (spell v)); made = λ a. refl; kind = λ a. refl; counted = λ a. refl }
+    record { spelled = λ v l. head-spelled v (subst (λ m. Spelled m v) l (spell v)); kind = λ a. refl; counted = λ a. refl }
 
 pub count-spelling : (k : LineKind) → fields k ≡ 1 → Spelling k countOf (lineOfCount k)
 unfolding lineOfCount countOf
@@ -66,7 +99,6 @@ count-spelling k e =
     record {
       spelled = λ v l. count-spelled k v
           (subst (λ m. Spelled m v) (l ∙ e) (spell v));
-      made = λ a. refl;
       kind = λ a. refl;
       counted = λ a. sym e;
     }

@@ -1,17 +1,21 @@
--- The text of a well-formed diagram has at most 3603 bytes.
-use Prim.Native.Nat.{ℕ, zero, suc, _+_, _*_, _≤_, _<_}
+-- The text of a well-formed diagram has at most 3593 bytes, or 4553 where its role lines have RMIN and RMAX.
+use Prim.Native.Nat.{ℕ, zero, suc, _+_, _-_, _*_, min, _≤_, _<_}
+use native.Mathlib.Decide.{decLe}
+use native.Mathlib.Nat.{mul-add, mul-suc}
 use native.Mathlib.Omega.{arith}
-use mathlib.Core.Path.{_≡_, refl, ap}
+use mathlib.Core.Path.{_≡_, refl, ap, subst}
 use mathlib.Core.Logic.{inr}
+use mathlib.Core.Bool.{Bool, true, false}
 use mathlib.Core.List.{List, [], _∷_, _++_, map, flatMap, List·Memᴰ·head as here, List·Memᴰ·tail as there}
 use lib.ListN.{length, length-append}
 use Rattle.counting.specs.Terms.{Each, EachFrom}
-use Rattle.orm.specs.Diagram.{ObjectType, Role, Frequency, Predicate, Diagram, Line, lineOfType, lineOfRole, lineOfGroup, lineOfPred, linesOfPred, lineOfCount, diagramLine, typesLine, predsLine, endLine, allRoles, allGroups, lines}
+use Rattle.orm.specs.Diagram.{ObjectType, Role, Frequency, Predicate, Diagram, Line, limitsRoles, roleLineOf, lineOfType, lineOfRole, lineOfGroup, lineOfPred, linesOfPred, lineOfCount, diagramLine, typesLine, predsLine, endLine, allRoles, allGroups, lines}
 use Rattle.orm.specs.Text.{bytes, key, separator, decimal, valuesText, lineText, render}
 use Rattle.orm.specs.WellFormed.{TypeForm, RoleForm, GroupForm, PredForm, WellFormed}
 use Rattle.reading.specs.Decimal.{bound, decimal-length}
 use Rattle.reading.specs.Exact.{written, written-append}
 use Rattle.reading.specs.Cutting.{textForm}
+use Rattle.reading.specs.Spelling.{roleLineBy, roleValuesBy}
 
 -- The numbers of a line, with what follows each, take at most `b` bytes
 record Wide (b : ℕ) (vs : List ℕ) : Type 0 where
@@ -38,22 +42,35 @@ first-small ts n t f = go (t .first) refl
     go zero e = omega arith
     go (suc s) e = omega (arith, f .values (inr (λ z. omega arith)), f .largest)
 
-type-wide : (ts : List ObjectType) (n : ℕ) (t : ObjectType) → n ≤ 32 → TypeForm ts n t → Wide 29 (lineOfType t .values)
+-- SUPER has one digit up to type 10
+type-wide : (ts : List ObjectType) (n : ℕ) (t : ObjectType) → n ≤ 32 → TypeForm ts n t
+    → Wide 29 (lineOfType t .values) × (n ≤ 10 → Wide 28 (lineOfType t .values))
 unfolding lineOfType bound
 type-wide ts n t h f =
-    let first : t .first ≤ 999999 = first-small ts n t f in
-    wide-cons 3 (omega (arith, f .sizes, f .most))
-    (wide-cons 3 (omega (arith, f .most))
-    (wide-cons 5 (omega arith)
-    (wide-cons 5 (omega (arith, f .largest))
-    (wide-cons 1 (omega (arith, f .above))
-    (wide-cons 0 (omega (arith, f .indep)) wide-nil)))))
+    (numbers (wide-cons 1 (omega (arith, f .above)) last), λ k. numbers (wide-cons 0 (omega (arith, f .above)) last))
+  where
+    last : Wide 2 (t .indep ∷ [])
+    last = unfold bound in wide-cons 0 (omega (arith, f .indep)) wide-nil
 
-role-wide : (types groups : ℕ) (r : Role) → types ≤ 32 → groups ≤ 6 → RoleForm types groups r → Wide 7 (lineOfRole r .values)
-unfolding lineOfRole bound
-role-wide types groups r h k f =
-    wide-cons 1 (omega (arith, f .player .1))
-    (wide-cons 0 (omega (arith, f .mand)) (wide-cons 0 (omega (arith, f .group)) wide-nil))
+    numbers : {b : ℕ} {vs : List ℕ} → Wide b vs → Wide (2 + 3 + (2 + 3 + (2 + 5 + (2 + 5 + b)))) (t .min ∷ t .max ∷ t .first ∷ t .last ∷ vs)
+    numbers w =
+        unfold bound in
+        wide-cons 3 (omega (arith, f .sizes, f .most))
+        (wide-cons 3 (omega (arith, f .most))
+        (wide-cons 5 (omega (arith, first-small ts n t f)) (wide-cons 5 (omega (arith, f .largest)) w)))
+
+-- TYPE, MAND and GROUP before other numbers, and RMIN and RMAX
+role-wide : (types groups : ℕ) (r : Role) → types ≤ 32 → groups ≤ 6 → RoleForm types groups r → {b : ℕ} {vs : List ℕ} → Wide b vs
+    → Wide (7 + b) (r .type ∷ r .mand ∷ r .group ∷ vs)
+unfolding bound
+role-wide types groups r h k f {b} {vs} w =
+    let e : 2 + 1 + (2 + 0 + (2 + 0 + b)) ≡ 7 + b = omega arith in
+    subst (λ (n : ℕ). Wide n (r .type ∷ r .mand ∷ r .group ∷ vs)) e (wide-cons 1 (omega (arith, f .player .1))
+    (wide-cons 0 (omega (arith, f .mand)) (wide-cons 0 (omega (arith, f .group)) w)))
+
+limits-wide : (types groups : ℕ) (r : Role) → RoleForm types groups r → Wide 10 (r .rmin ∷ r .rmax ∷ [])
+unfolding bound
+limits-wide types groups r f = wide-cons 3 (omega (arith, f .limits, f .most)) (wide-cons 3 (omega (arith, f .most)) wide-nil)
 
 group-wide : (rs : List Role) (n : ℕ) (g : Frequency) → GroupForm rs n g → Wide 10 (lineOfGroup g .values)
 unfolding lineOfGroup bound
@@ -73,7 +90,7 @@ count-wide n h = wide-cons 1 (omega arith) wide-nil
 
 -- ---- some lines
 
-abbrev size : List Line → ℕ
+abbrev pub size : List Line → ℕ
 size ls = length (written textForm ls)
 
 size-append : (ls ks : List Line) → size (ls ++ ks) ≡ size ls + size ks
@@ -92,23 +109,45 @@ size-cons l ls {b} w = omega (
   w .is,
 )
 
-types-size : (us : List ObjectType) (n : ℕ) (ts : List ObjectType) → n + length ts ≤ 33 → EachFrom (TypeForm us) n ts → size (map lineOfType ts) ≤ 34 * length ts
+pub types-size : (us : List ObjectType) (n : ℕ) (ts : List ObjectType) → n + length ts ≤ 33 → EachFrom (TypeForm us) n ts
+    → size (map lineOfType ts) + min (11 - n) (length ts) ≤ 34 * length ts
 unfolding lineOfType bytes key
 types-size us n [] h f = omega (arith, size-none)
-types-size us n (t ∷ ts) h f = omega (
-  arith,
-  size-cons (lineOfType t) (map lineOfType ts) (type-wide us n t (omega arith) (f .0)),
-  types-size us (suc n) ts (omega arith) (f .1),
-)
+types-size us n (t ∷ ts) h f = go (decLe n 10) (types-size us (suc n) ts (omega arith) (f .1))
+  where
+    go : Dec (n ≤ 10) → size (map lineOfType ts) + min (11 - suc n) (length ts) ≤ 34 * length ts
+        → size (map lineOfType (t ∷ ts)) + min (11 - n) (suc (length ts)) ≤ 34 * suc (length ts)
+    go (yes l) others =
+        unfold lineOfType bytes key in
+        omega (arith, size-cons (lineOfType t) (map lineOfType ts) (type-wide us n t (omega arith) (f .0) .1 l))
+    go (no l) others =
+        unfold lineOfType bytes key in
+        omega (arith, size-cons (lineOfType t) (map lineOfType ts) (type-wide us n t (omega arith) (f .0) .0))
 
-roles-size : (types groups : ℕ) (rs : List Role) → types ≤ 32 → groups ≤ 6 → Each (RoleForm types groups) rs
-    → size (map lineOfRole rs) ≤ 12 * length rs
-unfolding lineOfRole bytes key
-roles-size types groups [] h k f = omega (arith, size-none)
-roles-size types groups (r ∷ rs) h k f = omega (
+-- A role line, in a diagram of this kind
+unfoldable pub roleBytes : ℕ → ℕ
+roleBytes kind = elim (limitsRoles kind) [ true ↦ 22 | false ↦ 12 ]
+
+role-size : (kind types groups : ℕ) (r : Role) (ls : List Line) → types ≤ 32 → groups ≤ 6 → RoleForm types groups r
+    → size (lineOfRole kind r ∷ ls) ≤ roleBytes kind + size ls
+unfolding lineOfRole roleLineOf roleBytes bytes key
+role-size kind types groups r ls h k f = go (limitsRoles kind)
+  where
+    lineBy : Bool → Line
+    lineBy b = record { kind = roleLineBy b; values = roleValuesBy b r }
+
+    go : (b : Bool) → size (lineBy b ∷ ls) ≤ elim b [ true ↦ 22 | false ↦ 12 ] + size ls
+    go true = omega (arith, size-cons (lineBy true) ls (role-wide types groups r h k f (limits-wide types groups r f)))
+    go false = omega (arith, size-cons (lineBy false) ls (role-wide types groups r h k f wide-nil))
+
+roles-size : (kind types groups : ℕ) (rs : List Role) → types ≤ 32 → groups ≤ 6 → Each (RoleForm types groups) rs
+    → size (map (lineOfRole kind) rs) ≤ roleBytes kind * length rs
+roles-size kind types groups [] h k f = omega (arith, size-none)
+roles-size kind types groups (r ∷ rs) h k f = omega (
   arith,
-  size-cons (lineOfRole r) (map lineOfRole rs) (role-wide types groups r h k (f r (here refl))),
-  roles-size types groups rs h k (λ a m. f a (there m)),
+  role-size kind types groups r (map (lineOfRole kind) rs) h k (f r (here refl)),
+  roles-size kind types groups rs h k (λ a m. f a (there m)),
+  mul-suc (roleBytes kind) (length rs),
 )
 
 groups-size : (rs : List Role) (n : ℕ) (gs : List Frequency) → EachFrom (GroupForm rs) n gs → size (map lineOfGroup gs) ≤ 15 * length gs
@@ -120,62 +159,83 @@ groups-size rs n (g ∷ gs) f = omega (
   groups-size rs (suc n) gs (f .1),
 )
 
-pred-size : (types : ℕ) (p : Predicate) → types ≤ 32 → PredForm types p
-    → size (linesOfPred p) ≤ 19 + 12 * length (p .roles) + 15 * length (p .groups)
+pub pred-size : (kind types : ℕ) (p : Predicate) → types ≤ 32 → PredForm types p
+    → size (linesOfPred kind p) ≤ 19 + roleBytes kind * length (p .roles) + 15 * length (p .groups)
 unfolding linesOfPred lineOfPred bytes key
-pred-size types p h f = omega (
+pred-size kind types p h f = omega (
   arith,
-  size-cons (lineOfPred p) (map lineOfRole (p .roles) ++ map lineOfGroup (p .groups)) (head-wide types p f),
-  size-append (map lineOfRole (p .roles)) (map lineOfGroup (p .groups)),
-  roles-size types (length (p .groups)) (p .roles) h (f .few) (f .roles),
+  size-cons (lineOfPred p) (map (lineOfRole kind) (p .roles) ++ map lineOfGroup (p .groups)) (head-wide types p f),
+  size-append (map (lineOfRole kind) (p .roles)) (map lineOfGroup (p .groups)),
+  roles-size kind types (length (p .groups)) (p .roles) h (f .few) (f .roles),
   groups-size (p .roles) 1 (p .groups) (f .groups),
 )
 
-preds-size : (types : ℕ) (ps : List Predicate) → types ≤ 32 → Each (PredForm types) ps
-    → size (flatMap linesOfPred ps) ≤ 19 * length ps + 12 * length (flatMap (λ (p : Predicate). p .roles) ps) + 15 * length
+pub preds-size : (kind types : ℕ) (ps : List Predicate) → types ≤ 32 → Each (PredForm types) ps
+    → size (flatMap (linesOfPred kind) ps) ≤ 19 * length ps + roleBytes kind * length (flatMap (λ (p : Predicate). p .roles) ps) + 15 * length
     (flatMap (λ (p : Predicate). p .groups) ps)
 unfolding flatMap
-preds-size types [] h f = omega (arith, size-none)
-preds-size types (p ∷ ps) h f = omega (
+preds-size kind types [] h f = omega (arith, size-none)
+preds-size kind types (p ∷ ps) h f = omega (
   arith,
-  size-append (linesOfPred p) (flatMap linesOfPred ps),
-  pred-size types p h (f p (here refl)),
-  preds-size types ps h (λ a m. f a (there m)),
-  length-append (p .roles) (flatMap (λ (q : Predicate). q .roles) ps),
+  size-append (linesOfPred kind p) (flatMap (linesOfPred kind) ps),
+  pred-size kind types p h (f p (here refl)),
+  preds-size kind types ps h (λ a m. f a (there m)),
+  ap (roleBytes kind *_) (length-append (p .roles) (flatMap (λ (q : Predicate). q .roles) ps)),
+  mul-add (roleBytes kind) (length (p .roles)) (length (flatMap (λ (q : Predicate). q .roles) ps)),
   length-append (p .groups) (flatMap (λ (q : Predicate). q .groups) ps),
 )
 
 -- ---- the whole text
 
-rendered : (d : Diagram) → render d ≡ written textForm (lines d)
+pub rendered : (d : Diagram) → render d ≡ written textForm (lines d)
 unfolding render written
 rendered d = refl
 
-one-wide : Wide 2 (1 ∷ [])
+kind-wide : (n : ℕ) → n ≤ 2 → Wide 2 (n ∷ [])
 unfolding bound
-one-wide = wide-cons 0 (omega arith) wide-nil
+kind-wide n h = wide-cons 0 (omega arith) wide-nil
 
-pub text-length : (d : Diagram) → WellFormed d → length (render d) ≤ 3603
+by-roles : (d : Diagram) → WellFormed d → length (render d) ≤ 2441 + roleBytes (d .kind) * length (allRoles d)
 unfolding lines lineOfCount bytes key allRoles allGroups
-text-length d w =
+by-roles d w =
     let ts : List Line = map lineOfType (d .types) in
-    let ps : List Line = flatMap linesOfPred (d .preds) in
+    let ps : List Line = flatMap (linesOfPred (d .kind)) (d .preds) in
     let last : List Line = lineOfCount endLine (length (allRoles d)) ∷ [] in
     let after-types : List Line = ts ++ lineOfCount predsLine (length (d .preds)) ∷ ps ++ last in
     omega (
       arith,
       ap length (rendered d),
-      size-cons (lineOfCount diagramLine 1) (lineOfCount typesLine (length (d .types)) ∷ after-types) one-wide,
+      size-cons (lineOfCount diagramLine (d .kind)) (lineOfCount typesLine (length (d .types)) ∷ after-types) (kind-wide (d .kind) (w .kinds .1)),
       size-cons (lineOfCount typesLine (length (d .types))) after-types (count-wide (length (d .types)) (omega (arith, w .typeCount .1))),
       size-append (ts ++ lineOfCount predsLine (length (d .preds)) ∷ ps) last,
       size-append ts (lineOfCount predsLine (length (d .preds)) ∷ ps),
       types-size (d .types) 1 (d .types) (omega (arith, w .typeCount .1)) (w .types),
       size-cons (lineOfCount predsLine (length (d .preds))) ps (count-wide (length (d .preds)) (omega (arith, w .predCount .1))),
-      preds-size (length (d .types)) (d .preds) (w .typeCount .1) (w .preds),
+      preds-size (d .kind) (length (d .types)) (d .preds) (w .typeCount .1) (w .preds),
       size-cons (lineOfCount endLine (length (allRoles d))) [] (count-wide (length (allRoles d)) (omega (arith, w .roleCount))),
       size-none,
       w .typeCount .1,
       w .predCount .1,
-      w .roleCount,
       w .groupCount,
     )
+
+-- Of each kind
+unfoldable pub textBytes : ℕ → ℕ
+textBytes kind = elim (limitsRoles kind) [ true ↦ 4553 | false ↦ 3593 ]
+
+pub text-length-by : (d : Diagram) → WellFormed d → length (render d) ≤ textBytes (d .kind)
+unfolding roleBytes textBytes
+text-length-by d w = go (limitsRoles (d .kind)) (by-roles d w)
+  where
+    go : (b : Bool) → length (render d) ≤ 2441 + elim b [ true ↦ 22 | false ↦ 12 ] * length (allRoles d)
+        → length (render d) ≤ elim b [ true ↦ 4553 | false ↦ 3593 ]
+    go true h = omega (arith, w .roleCount)
+    go false h = omega (arith, w .roleCount)
+
+pub text-length : (d : Diagram) → WellFormed d → length (render d) ≤ 4553
+unfolding textBytes
+text-length d w = go (limitsRoles (d .kind)) (text-length-by d w)
+  where
+    go : (b : Bool) → length (render d) ≤ elim b [ true ↦ 4553 | false ↦ 3593 ] → length (render d) ≤ 4553
+    go true h = h
+    go false h = omega arith

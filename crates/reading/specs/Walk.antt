@@ -4,9 +4,9 @@ use mathlib.Core.Option.{none, some}
 use mathlib.Core.List.{List, [], _∷_, _++_}
 use lib.ListN.{length, getD, drop}
 use Rattle.counting.specs.Lists.{each}
-use Rattle.orm.specs.Diagram.{ObjectType, Role, Diagram, Totals, totals, table, LineKind, diagramLine, typesLine, typeLine, predsLine, predLine, roleLine, freqLine, endLine}
+use Rattle.orm.specs.Diagram.{ObjectType, Role, Diagram, Totals, totals, table, LineKind, diagramLine, typesLine, typeLine, predsLine, predLine, freqLine, endLine, roleLineOf}
 use Rattle.orm.specs.Reader.{rejected, read, Reader, Cut, broken, cut}
-use Rattle.orm.specs.Form.{Test, _unless_, firstOf, ranges, roleFields, inRanges, countOf, typeOf, roleOf, groupOf, headOf, typeTests, predTests, roleTests, groupTests, endTests}
+use Rattle.orm.specs.Form.{Test, _unless_, firstOf, ranges, fields, inRanges, countOf, typeOf, roleOf, groupOf, headOf, typeTests, predTests, roleTests, groupTests, endTests}
 
 -- What is told of a diagram: its table, and how many types, predicates, roles and groups it has
 pub record Summary : Type 0 where
@@ -24,11 +24,9 @@ typesIn n s = each typeOf 6 n s
 unfoldable pub typeTestsAt : ℕ → List ℕ → List ℕ → List Test
 typeTestsAt own acc v = typeTests own (typesIn (own - 1) (drop 2 acc)) (typeOf v)
 
--- The roles whose numbers stand from the index `first` on
-unfoldable pub rolesAt : List ℕ → ℕ → ℕ → List Role
-rolesAt s first zero = []
-rolesAt s first (suc k) =
-    record { type = getD s first 0; mand = getD s (first + 1) 0; group = getD s (first + 2) 0 } ∷ rolesAt s (first + roleFields) k
+-- The `n` roles of a diagram of this kind whose numbers stand here
+abbrev pub rolesAt : ℕ → ℕ → List ℕ → List Role
+rolesAt kind n s = each (roleOf kind) (fields (roleLineOf kind)) n s
 
 -- With so many more roles and groups
 abbrev pub plus : Totals → ℕ → ℕ → Totals
@@ -68,31 +66,34 @@ module _ (next : LineKind → List ℕ → Cut) where
   unfoldable pub fromEnd : Totals → Walk
   fromEnd t acc = lineThen endLine (λ v. endTests (t .roles) (countOf v)) (λ v acc′. nothingLeft t acc′) acc
 
-  -- The groups of a predicate with so many roles, whose numbers start at `first`
-  unfoldable pub groupsThen : ℕ → ℕ → ℕ → ℕ → Walk → Walk
-  groupsThen first roles own left then = linesThen freqLine (λ g acc v. groupTests (rolesAt acc first roles) g (groupOf v)) own left then
+  -- In a diagram of this kind
+  module _ (kind : ℕ) where
+    -- The groups of a predicate with so many roles, whose numbers start at `first`
+    unfoldable pub groupsThen : ℕ → ℕ → ℕ → ℕ → Walk → Walk
+    groupsThen first roles own left then =
+        linesThen freqLine (λ g acc v. groupTests (rolesAt kind roles (drop first acc)) g (groupOf v)) own left then
 
-  -- The roles of a predicate, under so many types, and its groups
-  unfoldable pub rolesThen : ℕ → ℕ → ℕ → ℕ → ℕ → ℕ → Walk → Walk
-  rolesThen types first roles groups own left then =
-      linesThen roleLine (λ i acc v. roleTests types groups (roleOf v)) own left (groupsThen first roles 1 groups then)
+    -- The roles of a predicate, under so many types, and its groups
+    unfoldable pub rolesThen : ℕ → ℕ → ℕ → ℕ → ℕ → ℕ → Walk → Walk
+    rolesThen types first roles groups own left then =
+        linesThen (roleLineOf kind) (λ i acc v. roleTests types groups (roleOf kind v)) own left (groupsThen first roles 1 groups then)
 
-  -- So many predicates, after those that the totals count
-  unfoldable pub fromPreds : Totals → ℕ → Walk
-  fromPreds t zero acc = fromEnd t acc
-  fromPreds t (suc left) acc =
-      lineThen predLine (λ v. predTests (t .roles) (t .groups) (headOf v))
-      (λ v acc′. rolesThen (t .types) (length acc + length v) (getD v 2 0) (getD v 3 0) 1 (getD v 2 0)
-      (fromPreds (plus t (getD v 2 0) (getD v 3 0)) left) acc′) acc
+    -- So many predicates, after those that the totals count
+    unfoldable pub fromPreds : Totals → ℕ → Walk
+    fromPreds t zero acc = fromEnd t acc
+    fromPreds t (suc left) acc =
+        lineThen predLine (λ v. predTests (t .roles) (t .groups) (headOf v))
+        (λ v acc′. rolesThen (t .types) (length acc + length v) (getD v 2 0) (getD v 3 0) 1 (getD v 2 0)
+        (fromPreds (plus t (getD v 2 0) (getD v 3 0)) left) acc′) acc
 
-  unfoldable pub fromPredsLine : ℕ → Walk
-  fromPredsLine types acc = lineThen predsLine (λ v. []) (λ v acc′. fromPreds (noRoles types (getD v 0 0)) (getD v 0 0) acc′) acc
+    unfoldable pub fromPredsLine : ℕ → Walk
+    fromPredsLine types acc = lineThen predsLine (λ v. []) (λ v acc′. fromPreds (noRoles types (getD v 0 0)) (getD v 0 0) acc′) acc
 
-  unfoldable pub fromTypes : ℕ → ℕ → ℕ → Walk
-  fromTypes types own left = linesThen typeLine typeTestsAt own left (fromPredsLine types)
+    unfoldable pub fromTypes : ℕ → ℕ → ℕ → Walk
+    fromTypes types own left = linesThen typeLine typeTestsAt own left (fromPredsLine types)
 
-  unfoldable pub fromTypesLine : Walk
-  fromTypesLine acc = lineThen typesLine (λ v. []) (λ v acc′. fromTypes (getD v 0 0) 1 (getD v 0 0) acc′) acc
+    unfoldable pub fromTypesLine : Walk
+    fromTypesLine acc = lineThen typesLine (λ v. []) (λ v acc′. fromTypes (getD v 0 0) 1 (getD v 0 0) acc′) acc
 
   unfoldable pub fromStart : Walk
-  fromStart acc = lineThen diagramLine (λ v. []) (λ v acc′. fromTypesLine acc′) acc
+  fromStart acc = lineThen diagramLine (λ v. []) (λ v acc′. fromTypesLine (getD v 0 0) acc′) acc

@@ -1,7 +1,7 @@
 -- Whatever solution of the limits is taken for the sizes, the population made from it meets the constraints and has these sizes.
 -- The way there: `Solved` says what each bound and limit means for the sizes. `Types` makes K1 to K4 of that, and `Members` numbers a role's
 -- members. `Parts`: the sizes of a predicate's parts fit the tuples made from them. `Indices`: in each row a part has one tuple (by `Lookup`),
--- and every member of a role stands in some row. `Rows`: rows and values differ as their indices do, K5 to K8. `Groups`: each combination
+-- and every member of a role stands in some row. `Rows`: rows and values differ as their indices do, K5 to K8 and K11. `Groups`: each combination
 -- stands in an even share of the rows (by `Classes` of counting), K9. `Covered`: K10. `Sizes`: each set is as large as was wanted.
 use Prim.Native.Nat.{ℕ}
 use mathlib.Core.Path.{_≡_, refl}
@@ -49,6 +49,7 @@ module _ (d : Diagram) (c : List ℕ) (s : Solved d c) where
     k8 = each-pred-populated _ (λ x m. Rows.k8 s m);
     k9 = each-pred-populated _ (λ x m. Groups.k9 s m);
     k10 = Types.each-type-populated s _ (λ a t h. Covered.k10 s h);
+    k11 = each-pred-populated _ (λ x m. Rows.k11 s m);
   }
 
   -- Whatever solution `c` is

@@ -1,12 +1,12 @@
 -- The predicates of a diagram with their sets: `placedFrom` and what is made from it.
 use Prim.Native.Nat.{ℕ, suc, _+_}
-use mathlib.Core.Path.{_≡_, refl, ap}
+use mathlib.Core.Path.{_≡_, refl, ap, subst}
 use mathlib.Core.Logic.{⊎-elim}
 use mathlib.Core.List.{List, [], _∷_, _++_, map, flatMap, flatten, zipWith, List·Memᴰ·head as here, List·Memᴰ·tail as there, List·Memᴰ·not-nil}
 use native.Mathlib.Nat.{add-zero, add-suc, suc-add}
 use native.Mathlib.Omega.{arith}
 use lib.ListN.{length, length-append}
-use Rattle.counting.specs.Laws.Index.{At, at-append-cases, first, later}
+use Rattle.counting.specs.Laws.Index.{At, at-append-cases, at-append-left, at-append-right, first, later}
 use Rattle.counting.specs.Lists.{upFrom}
 use Rattle.counting.specs.Laws.Range.{upFrom-append}
 use Rattle.counting.specs.Terms.{_∈_}
@@ -54,6 +54,19 @@ role-placed r p q (y ∷ ps) {k} h =
     (λ (i, e, l). let (x, m, j, l′, e′) = role-placed (suc r) (p + length (y .roles)) (q + length (y .groups)) ps l in
     (x, there m, j, l′, omega arith))
     (at-append-cases (y .roles) h)
+
+-- A predicate's role by its number in the diagram
+pub placed-role : (r p q : ℕ) (ps : List Predicate) {x : Placed} {j : ℕ} {a : Role} → x ∈ placedFrom r p q ps → At a (x .predicate .roles) j
+    → (k : ℕ) × At a (flatMap (λ (y : Predicate). y .roles) ps) k × (x .roles + j ≡ p + k)
+unfolding placedFrom flatMap
+placed-role r p q [] m h = absurd (List·Memᴰ·not-nil m)
+placed-role r p q (y ∷ ps) {x} {j} {a} (here e) h =
+    let same-predicate : x .predicate ≡ y = ap (λ (z : Placed). z .predicate) e in
+    let same-roles : x .roles ≡ p = ap (λ (z : Placed). z .roles) e in
+    (j, at-append-left _ (subst (λ (z : Predicate). At a (z .roles) j) same-predicate h), omega arith)
+placed-role r p q (y ∷ ps) (there m) h =
+    let (k, l, e) = placed-role (suc r) (p + length (y .roles)) (q + length (y .groups)) ps m h in
+    (length (y .roles) + k, at-append-right (y .roles) l, omega arith)
 
 -- What is made of each predicate and its rows
 pub flatten-placed : {A : Type 0} (f : Predicate → List (List ℕ) → List A) (g : Placed → List (List ℕ)) (r p q : ℕ) (ps : List Predicate)

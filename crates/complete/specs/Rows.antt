@@ -14,16 +14,16 @@ use Rattle.counting.specs.Lists.{column, mapFrom, upFrom}
 use Rattle.counting.specs.Laws.Maps.{map-congr, mapFrom-congr}
 use Rattle.counting.specs.Laws.Range.{in-below-iff, length-upFrom, map-below-no-repeats}
 use Rattle.counting.specs.Terms.{_∈_, _⊆_}
-use Rattle.orm.specs.Constraints.{Played, membersOf, played}
+use Rattle.orm.specs.Constraints.{Played, memberCount, membersOf, played}
 use Rattle.orm.specs.Diagram.{Diagram, Role, index}
-use Rattle.orm.specs.Meaning.{M5, M6, M7, M8}
+use Rattle.orm.specs.Meaning.{Between, M5, M6, M7, M8, M11}
 use Rattle.orm.specs.Populate.{indexInRow, memberOf, population, row, rows, size, typeValues}
 use Rattle.orm.specs.Sets.{Part, Placed, groupPart, parts, placed, rolePart}
 use Rattle.orm.specs.WellFormed.{RoleForm}
 use Rattle.complete.specs.Indices.{index-below, index-onto, part-below, part-tuple, partIndex, parts-differ, tuple-differ}
 use Rattle.complete.specs.Members.{member-differ, member-in-type, member-onto}
 use Rattle.complete.specs.Parts.{each-part, of-groupRoles}
-use Rattle.complete.specs.Solved.{Solved, own-least, own-most, pred-form, role-mandatory, role-positive, role-type}
+use Rattle.complete.specs.Solved.{Solved, own-least, own-most, pred-form, role-least, role-mandatory, role-most, role-positive, role-type}
 use Rattle.complete.specs.Types.{members-of}
 
 module _ (d : Diagram) (c : List ℕ) (x : Placed) where
@@ -93,6 +93,9 @@ module _ {d : Diagram} {c : List ℕ} (s : Solved d c) {x : Placed} (m : x ∈ p
 
   pub k8 : M8 (population d c) (x .predicate) (rows d c x)
   k8 = each-played (λ y. y .role .mand ≡ 1 → membersOf (population d c) (y .role .type) ⊆ y .values) (λ j a h. type-in-values h)
+
+  pub k11 : M11 (x .predicate) (rows d c x)
+  k11 = each-played (λ y. Between (y .role .rmin) (memberCount y) (y .role .rmax)) (λ j a h. rw (role-members h) (role-least s m h, role-most s m h))
 
   -- ---- rows
 

@@ -1,14 +1,13 @@
 -- Sizes of a diagram's sets that respect its bounds and limits, and what each limit says of them.
 use Prim.Native.Nat.{ℕ, suc, _+_, _*_, _/_, _≤_, _<_}
 use mathlib.Core.Path.{_≡_, refl, sym, _∙_}
-use mathlib.Core.Logic.{⊎-elim}
 use mathlib.Core.Bool.{Bool, true, not}
-use mathlib.Core.List.{List, [], _∷_, _++_, map, flatMap, flatten, List·Memᴰ·head as here, List·Memᴰ·tail as there, List·Memᴰ·append-cases, Memᴰ·append-left, Memᴰ·append-right, Memᴰ·of-map}
-use native.Mathlib.Nat.{le-trans, mul-one, zero-add}
+use mathlib.Core.List.{List, [], _∷_, _++_, map, flatMap, flatten, List·Memᴰ·head as here, List·Memᴰ·tail as there, Memᴰ·append-left, Memᴰ·append-right}
+use native.Mathlib.Nat.{le-trans, min-le-right, mul-one, zero-add}
 use native.Mathlib.Omega.{arith}
 use borrow.Author.Tests.{eq-eqb, ne-eqb}
 use lib.ListN.{length, getD, length-append, length-map}
-use Rattle.counting.specs.Laws.Index.{At, at-append-left, at-append-right, at-below, at-getD, at-in, at-map, at-mapFrom, each-from-at, in-at}
+use Rattle.counting.specs.Laws.Index.{At, at-append-left, at-append-right, at-below, at-getD, at-in, at-map, at-mapFrom, each-from-at}
 use Rattle.counting.specs.Lists.{mapFrom}
 use Rattle.counting.specs.Laws.Members.{getD-in, in-flatMap, in-flatten}
 use Rattle.counting.specs.Laws.Range.{in-upFrom, of-upFrom}
@@ -18,11 +17,12 @@ use Rattle.fixpoint.specs.Limits.{Limit, valueOf}
 use Rattle.fixpoint.specs.Notions.{_≼_, Holds, Satisfies}
 use Rattle.orm.specs.Diagram.{Diagram, Frequency, ObjectType, Predicate, Role, allGroups, allRoles, index, isGrouped, isMandatory, isRoot}
 use Rattle.orm.specs.Populate.{size}
-use Rattle.orm.specs.Sets.{Part, Placed, atMost, firstGroup, firstPred, firstRole, groupRoles, groupSet, limitOfRows, limits, limitsOfGroup, limitsOfPred, limitsOfRole, limitsOfType, lower, onlyIf, parts, placed, rolesOfType, upper, upperOfType}
+use Rattle.orm.specs.Sets.{Part, Placed, atMost, firstGroup, firstPred, firstRole, groupRoles, groupSet, limitOfRows, limits, limitsOfGroup, limitsOfPred, limitsOfRole, limitsOfType, lower, onlyIf, parts, placed, rolesOfType, upper, upperOfRole, upperOfType}
 use Rattle.orm.specs.Meaning.{MustPlay}
+use Rattle.orm.specs.Laws.Bounds.{lower-positive}
 use Rattle.orm.specs.WellFormed.{PredForm, TypeForm, WellFormed}
 use Rattle.orm.specs.Laws.Decided.{mustPlay-decides}
-use Rattle.complete.specs.Place.{group-sets, groupSets, placed-at, role-sets, roleSets}
+use Rattle.complete.specs.Place.{group-sets, groupSets, placed-at, placed-role}
 
 -- The sizes `c` are between the bounds of a well-formed diagram and satisfy its limits
 pub record Solved (d : Diagram) (c : List ℕ) : Type 0 where
@@ -32,28 +32,44 @@ pub record Solved (d : Diagram) (c : List ℕ) : Type 0 where
   pub satisfied : Satisfies (limits d) c
 
 -- `lower` and `upper` are such lists
-module _ (f : ObjectType → ℕ) (g : Predicate → ℕ) (n : ℕ) (d : Diagram) where
+module _ (f : ObjectType → ℕ) (g : Predicate → ℕ) (h : Role → ℕ) (n : ℕ) (d : Diagram) where
   abbrev bounds : List ℕ
-  bounds = map f (d .types) ++ map g (d .preds) ++ map (λ (r : Role). n) (allRoles d) ++ map (λ (q : Frequency). n) (allGroups d)
+  bounds = map f (d .types) ++ map g (d .preds) ++ map h (allRoles d) ++ map (λ (q : Frequency). n) (allGroups d)
 
   bounds-type : {a : ℕ} {t : ObjectType} → At t (d .types) a → getD bounds a 0 ≡ f t
-  bounds-type h =
+  bounds-type i =
       at-getD {A = ℕ} 0 (at-append-left (map (λ (q : Frequency). n) (allGroups d))
-      (at-append-left (map (λ (r : Role). n) (allRoles d)) (at-append-left (map g (d .preds)) (at-map f h))))
+      (at-append-left (map h (allRoles d)) (at-append-left (map g (d .preds)) (at-map f i))))
 
   bounds-pred : {k : ℕ} {p : Predicate} → At p (d .preds) k → getD bounds (length (d .types) + k) 0 ≡ g p
-  bounds-pred {k} h =
+  bounds-pred {k} i =
       rw (← length-map (d .types) f)
       (at-getD {A = ℕ} 0 (at-append-left (map (λ (q : Frequency). n) (allGroups d))
-      (at-append-left (map (λ (r : Role). n) (allRoles d)) (at-append-right (map f (d .types)) (at-map g h)))))
+      (at-append-left (map h (allRoles d)) (at-append-right (map f (d .types)) (at-map g i)))))
+
+  bounds-role : {k : ℕ} {r : Role} → At r (allRoles d) k → getD bounds (firstRole d + k) 0 ≡ h r
+  unfolding firstRole firstPred
+  bounds-role {k} i =
+      let before : length (map f (d .types) ++ map g (d .preds)) ≡ length (d .types) + length (d .preds) = simp (length-append, length-map) in
+      rw (← before)
+      (at-getD {A = ℕ} 0 (at-append-left (map (λ (q : Frequency). n) (allGroups d))
+      (at-append-right (map f (d .types) ++ map g (d .preds)) (at-map h i))))
 
 pub lower-type : (d : Diagram) {a : ℕ} {t : ObjectType} → At t (d .types) a → getD (lower d) a 0 ≡ t .min
 unfolding lower
-lower-type d h = bounds-type (λ t. t .min) (λ p. p .min) 1 d h
+lower-type d h = bounds-type (λ t. t .min) (λ p. p .min) (λ r. r .rmin) 1 d h
 
 pub upper-type : (d : Diagram) {a : ℕ} {t : ObjectType} → At t (d .types) a → getD (upper d) a 0 ≡ upperOfType t
 unfolding upper
-upper-type d h = bounds-type upperOfType (λ p. p .max) 4096 d h
+upper-type d h = bounds-type upperOfType (λ p. p .max) upperOfRole 4096 d h
+
+pub lower-role : (d : Diagram) {k : ℕ} {r : Role} → At r (allRoles d) k → getD (lower d) (firstRole d + k) 0 ≡ r .rmin
+unfolding lower
+lower-role d h = bounds-role (λ t. t .min) (λ p. p .min) (λ r. r .rmin) 1 d h
+
+pub upper-role : (d : Diagram) {k : ℕ} {r : Role} → At r (allRoles d) k → getD (upper d) (firstRole d + k) 0 ≡ upperOfRole r
+unfolding upper
+upper-role d h = bounds-role upperOfType (λ p. p .max) upperOfRole 4096 d h
 
 -- a type's limits are among the diagram's
 pub type-limit-in : (d : Diagram) {a : ℕ} {t : ObjectType} {l : Limit} → At t (d .types) a → l ∈ limitsOfType d a t → l ∈ limits d
@@ -79,27 +95,8 @@ module _ {d : Diagram} {c : List ℕ} (s : Solved d c) where
   unfolding lower
   count = sym (s .above .sized) ∙ simp (length-append, length-map)
 
-  lower-positive : (v : ℕ) → v ∈ lower d → 1 ≤ v
-  unfolding lower
-  lower-positive v m =
-      ⊎-elim (λ k. ⊎-elim (λ k. ⊎-elim of-type of-pred (List·Memᴰ·append-cases _ k)) (of-one (allRoles d)) (List·Memᴰ·append-cases _ k))
-      (of-one (allGroups d)) (List·Memᴰ·append-cases _ m)
-    where
-      of-type : v ∈ map (λ (t : ObjectType). t .min) (d .types) → 1 ≤ v
-      of-type k =
-          let (t, l, e) = Memᴰ·of-map _ (d .types) k in
-          omega (arith, type-form (in-at l .1) .some)
-
-      of-pred : v ∈ map (λ (p : Predicate). p .min) (d .preds) → 1 ≤ v
-      of-pred k =
-          let (p, l, e) = Memᴰ·of-map _ (d .preds) k in
-          omega (arith, s .form .preds p l .some)
-
-      of-one : {A : Type 0} (xs : List A) → v ∈ map (λ (x : A). 1) xs → 1 ≤ v
-      of-one xs k = omega (arith, Memᴰ·of-map _ xs k .2)
-
   positive : (i : ℕ) → i < length c → 0 < size c i
-  positive i h = le-trans (lower-positive _ (getD-in (lower d) i 0 (rw (s .above .sized) h))) (s .above .entry i)
+  positive i h = le-trans (lower-positive d (s .form) _ (getD-in (lower d) i 0 (rw (s .above .sized) h))) (s .above .entry i)
 
   pub type-least : {a : ℕ} {t : ObjectType} → At t (d .types) a → t .min ≤ size c a
   type-least {a} h = rw (lower-type d h) at (s .above .entry a)
@@ -136,23 +133,32 @@ module _ {d : Diagram} {c : List ℕ} (s : Solved d c) where
     unfolding lower
     own-least =
         let (k, h, e) = own-number in
-        rw e (rw (bounds-pred (λ t. t .min) (λ p. p .min) 1 d h) at (s .above .entry (length (d .types) + k)))
+        rw e (rw (bounds-pred (λ t. t .min) (λ p. p .min) (λ r. r .rmin) 1 d h) at (s .above .entry (length (d .types) + k)))
 
     pub own-most : size c (x .own) ≤ x .predicate .max
     unfolding upper
     own-most =
         let (k, h, e) = own-number in
-        rw e (rw (bounds-pred upperOfType (λ p. p .max) 4096 d h) at (s .below .entry (length (d .types) + k)))
+        rw e (rw (bounds-pred upperOfType (λ p. p .max) upperOfRole 4096 d h) at (s .below .entry (length (d .types) + k)))
 
     pub own-positive : 0 < size c (x .own)
     own-positive = omega (arith, pred-form .some, own-least)
 
+    role-number : {j : ℕ} {r : Role} → At r (x .predicate .roles) j → (k : ℕ) × At r (allRoles d) k × (x .roles + j ≡ firstRole d + k)
+    unfolding placed allRoles
+    role-number h = placed-role _ _ _ (d .preds) m h
+
+    pub role-least : {j : ℕ} {r : Role} → At r (x .predicate .roles) j → r .rmin ≤ size c (x .roles + j)
+    role-least h = let (k, l, e) = role-number h in rw e (rw (lower-role d l) at (s .above .entry (firstRole d + k)))
+
+    pub role-most : {j : ℕ} {r : Role} → At r (x .predicate .roles) j → size c (x .roles + j) ≤ r .rmax
+    unfolding upperOfRole
+    role-most {r = r} h =
+        let (k, l, e) = role-number h in
+        rw e (le-trans (rw (upper-role d l) at (s .below .entry (firstRole d + k))) (min-le-right 4096 (r .rmax)))
+
     pub role-positive : {j : ℕ} {r : Role} → At r (x .predicate .roles) j → 0 < size c (x .roles + j)
-    unfolding placed firstRole firstPred allRoles
-    role-positive {j} h =
-        let e = role-sets (firstPred d) (firstRole d) (firstGroup d) (d .preds) in
-        let k : x .roles + j ∈ flatMap roleSets (placed d) = in-flatMap roleSets m (in-upFrom _ _ (omega arith) (omega (arith, at-below h))) in
-        positive (x .roles + j) (omega (arith, count, of-upFrom _ _ (rw e at k)))
+    role-positive {r = r} h = omega (arith, pred-form .roles r (at-in h) .some, role-least h)
 
     pub group-positive : {k : ℕ} {f : Frequency} → At f (x .predicate .groups) k → 0 < size c (groupSet x (1 + k))
     unfolding placed firstGroup firstRole firstPred allRoles allGroups

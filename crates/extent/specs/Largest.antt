@@ -66,9 +66,9 @@ module _ (d : Diagram) (c : List ℕ) where
 unfoldable pub largest : Diagram
 largest =
     let t : ObjectType = record { min = 1; max = 4096; first = 0; last = 4095; super = 0; indep = 1 } in
-    let r : Role = record { type = 1; mand = 0; group = 0 } in
+    let r : Role = record { type = 1; mand = 0; group = 0; rmin = 1; rmax = 4096 } in
     let p : Predicate = record { min = 1; max = 4096; roles = r ∷ r ∷ r ∷ []; groups = [] } in
-    record { types = replicate 32 t; preds = replicate 32 p }
+    record { kind = 1; types = replicate 32 t; preds = replicate 32 p }
 
 unfoldable pub largestSizes : List ℕ
 largestSizes = replicate 160 4096

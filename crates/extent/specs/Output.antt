@@ -156,25 +156,25 @@ module _ (d : Diagram) (form : WellFormed d) where
 
 printed : (input : List ℕ) → length (program input) ≤ 194510
 unfolding program reported sizesOf sizesBy output
-printed input = ⊎-elim (λ (d, e). of-diagram d e (verdict d) refl) of-fault (accepted-or-fault textLine (take 4096 input))
+printed input = ⊎-elim (λ (d, e). of-diagram d e (verdict d) refl) of-fault (accepted-or-fault textLine (take 8192 input))
   where
-    of-diagram : (d : Diagram) → diagramIn textLine (take 4096 input) ≡ accepted d → (v : Verdict) → verdict d ≡ v
+    of-diagram : (d : Diagram) → diagramIn textLine (take 8192 input) ≡ accepted d → (v : Verdict) → verdict d ≡ v
         → length (program input) ≤ 194510
     of-diagram d e (unsatisfiable s n) q =
-        let form : WellFormed d = text-accepted-iff (take 4096 input) d .0 e .1 in
+        let form : WellFormed d = text-accepted-iff (take 8192 input) d .0 e .1 in
         let set-small : suc s ≤ 999999 = omega (arith, emptied-set d form q) in
         let round-small : n ≤ 999999 = omega (arith, emptied-rounds d form q) in
         rw (e, reported, q, sizesOf, sizesBy) (omega (arith, refusal-printed 7 (suc s) n (omega arith) set-small round-small))
-    of-diagram d e (fixpoint n c) q = rw (e, reported, q, sizesOf, sizesBy) (settled-printed d (text-accepted-iff (take 4096 input) d .0 e .1) q)
+    of-diagram d e (fixpoint n c) q = rw (e, reported, q, sizesOf, sizesBy) (settled-printed d (text-accepted-iff (take 8192 input) d .0 e .1) q)
 
-    of-fault : (c : ℕ) × (place : ℕ) × Between 1 c 6 × (diagramIn textLine (take 4096 input) ≡ refused c place 0)
+    of-fault : (c : ℕ) × (place : ℕ) × Between 1 c 6 × (diagramIn textLine (take 8192 input) ≡ refused c place 0)
         → length (program input) ≤ 194510
     of-fault (c, place, h, e) =
         let number-small : c ≤ 999999 = omega arith in
-        let place-small : place ≤ 999999 = omega (arith, line-at-most (take 4096 input) e, length-take 4096 input) in
+        let place-small : place ≤ 999999 = omega (arith, line-at-most (take 8192 input) e, length-take 8192 input) in
         rw (e, reported) (omega (arith, refusal-printed c place 0 number-small place-small (omega arith)))
 
--- 'The program reads at most 4,096 bytes on standard input .., gives 16,000 cells, and prints rounds, sizes in set order, each type's values, each
+-- 'the program reads up to 8,192 bytes' (document 02, S-8), 'gives 16,000 cells, and prints rounds, sizes in set order, each type's values, each
 -- predicate's number and rows; or `refused=NUMBER,PLACE,ROUND`': so much at most, whatever the input
 pub program-at-most : (input : List ℕ) → length (program input) ≤ 262144
 program-at-most input = omega (arith, printed input)

@@ -67,19 +67,19 @@ module _ (next : LineKind → List ℕ → Cut)
       left acc n [] = tt
       left acc n (x ∷ s) = omega arith
 
-  preds-near : (t : Totals) (left : ℕ) → Near (fromPreds next t left)
+  preds-near : (kind : ℕ) (t : Totals) (left : ℕ) → Near (fromPreds next kind t left)
   unfolding fromPreds rolesThen groupsThen
-  preds-near t zero acc = end-near t acc
-  preds-near t (suc left) acc =
+  preds-near kind t zero acc = end-near t acc
+  preds-near kind t (suc left) acc =
       line-near _ _ _
-      (λ v. lines-near _ _ 1 (getD v 2 0) _ (lines-near _ _ 1 (getD v 3 0) _ (preds-near (plus t (getD v 2 0) (getD v 3 0)) left))) acc
+      (λ v. lines-near _ _ 1 (getD v 2 0) _ (lines-near _ _ 1 (getD v 3 0) _ (preds-near kind (plus t (getD v 2 0) (getD v 3 0)) left))) acc
 
   start-near : Near (fromStart next)
   unfolding fromStart fromTypesLine fromTypes fromPredsLine
   start-near acc =
       line-near _ _ _
-      (λ v. λ acc. line-near _ _ _
-      (λ v. lines-near _ _ 1 (getD v 0 0) _ (λ acc. line-near _ _ _ (λ v. preds-near (noRoles _ (getD v 0 0)) (getD v 0 0)) acc)) acc) acc
+      (λ u. λ acc. line-near _ _ _
+      (λ v. lines-near _ _ 1 (getD v 0 0) _ (λ acc. line-near _ _ _ (λ v. preds-near (getD u 0 0) (noRoles _ (getD v 0 0)) (getD v 0 0)) acc)) acc) acc
 
 text-shorter : (k : LineKind) (s v rest : List ℕ) → textLine k s ≡ cut v rest → length rest < length s
 unfolding lineText

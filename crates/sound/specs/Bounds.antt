@@ -11,20 +11,20 @@ use Rattle.counting.specs.Terms.{_∈_, NoRepeats}
 use Rattle.counting.specs.Laws.Members.{no-repeats-le}
 use Rattle.counting.specs.Laws.Range.{in-upFrom, length-upFrom}
 use Rattle.counting.specs.Laws.Instances.{eqb-decides, same-decides}
-use Rattle.counting.specs.Laws.Index.{At, first, later, at-in, of-mapFrom, of-flatten-zipWith}
+use Rattle.counting.specs.Laws.Index.{At, first, later, at-in, at-map, at-unique, of-mapFrom, of-flatten-zipWith}
 use Rattle.fixpoint.specs.Notions.{_≼_}
 use Rattle.fixpoint.specs.Laws.Order.{≼-refl, ≼-cons, ≼-tail}
-use Rattle.orm.specs.Diagram.{ObjectType, Predicate, Diagram, allRoles, allGroups}
+use Rattle.orm.specs.Diagram.{ObjectType, Role, Predicate, Diagram, allRoles, allGroups}
 use Rattle.orm.specs.Supertypes.{hasRange}
-use Rattle.orm.specs.Sets.{lower, upper, upperOfType}
+use Rattle.orm.specs.Sets.{lower, upperOfType, upperOfRole, upper}
 use Rattle.orm.specs.Population.{Population}
-use Rattle.orm.specs.Constraints.{Played, Grouped, played, grouped, allPlayed, allGrouped, sizes}
-use Rattle.orm.specs.Meaning.{Between, M1, M2, M3, M6, Meets, Shaped}
+use Rattle.orm.specs.Constraints.{Played, memberCount, Grouped, played, grouped, allPlayed, allGrouped, sizes}
+use Rattle.orm.specs.Meaning.{Between, M1, M2, M3, M6, M11, Meets, Shaped}
 use Rattle.orm.specs.WellFormed.{WellFormed}
 use Rattle.orm.specs.Laws.Decided.{hasRange-decides}
 use Rattle.sound.specs.Counts.{distinct-between}
 use Rattle.sound.specs.Each.{each-type, each-pred}
-use Rattle.sound.specs.Positions.{playedSize, groupedSize, preds-length, roles-length, groups-length}
+use Rattle.sound.specs.Positions.{groupedSize, roles-played, preds-length, roles-length, groups-length}
 
 -- ---- lists of sizes in order
 
@@ -66,12 +66,21 @@ module _ (d : Diagram) (o : Population) (form : WellFormed d) (shaped : Shaped d
       let k = each-pred (M6) (meets .k6) a b in
       (omega (arith, f .some), omega (arith, f .most))
 
-  played-between : (x : Played) → x ∈ allPlayed d o → Between 1 (playedSize x) 4096
+  played-between : (x : Played) → x ∈ allPlayed d o → Between 1 (memberCount x) 4096
   unfolding allPlayed played column
   played-between x m =
       let z = of-flatten-zipWith played (d .preds) (o .preds) m in
       let r = of-mapFrom _ 0 (z .1 .roles) (z .5) in
       rw (r .3) (distinct-between eqb-decides _ (z .2) 4096 (rows-between (z .3) (z .4)))
+
+  -- A role and its members, by their place: K11
+  role-between : {i : ℕ} {r : Role} {x : Played} → At r (allRoles d) i → At x (allPlayed d o) i → Between (r .rmin) (memberCount x) (upperOfRole r)
+  unfolding allPlayed upperOfRole
+  role-between {r = r} {x = x} a b =
+      let same-role : x .role ≡ r = at-unique (rw (roles-played d o shaped) at (at-map (λ (y : Played). y .role) b)) a in
+      let z = of-flatten-zipWith played (d .preds) (o .preds) (at-in b) in
+      let (least, most) = each-pred M11 (meets .k11) (z .3) (z .4) x (z .5) in
+      rw (← same-role) (least, le-min (played-between x (at-in b) .1) most)
 
   grouped-between : (x : Grouped) → x ∈ allGrouped d o → Between 1 (groupedSize x) 4096
   unfolding allGrouped grouped
@@ -86,7 +95,7 @@ module _ (d : Diagram) (o : Population) (form : WellFormed d) (shaped : Shaped d
       ≼-append _ _ (≼-append _ _ (≼-append _ _
       (≼-map _ _ (d .types) (o .types) (sym (shaped .types)) (λ i t vs a b. each-type (M2) 1 (meets .k2) a b .0))
       (≼-map _ _ (d .preds) (o .preds) (sym (preds-length d o shaped)) (λ i p rows a b. each-pred (M6) (meets .k6) a b .0)))
-      (≼-map _ _ (allRoles d) (allPlayed d o) (sym (roles-length d o shaped)) (λ i r x a b. played-between x (at-in b) .0)))
+      (≼-map _ _ (allRoles d) (allPlayed d o) (sym (roles-length d o shaped)) (λ i r x a b. role-between a b .0)))
       (≼-map _ _ (allGroups d) (allGrouped d o) (sym (groups-length d o shaped)) (λ i f x a b. grouped-between x (at-in b) .0))
 
   pub ≼-upper : sizes d o ≼ upper d
@@ -97,5 +106,5 @@ module _ (d : Diagram) (o : Population) (form : WellFormed d) (shaped : Shaped d
       (λ i vs t b a. type-upper d o (1 + i) t vs (each-type (M1) 1 (meets .k1) a b) (each-type (M2) 1 (meets .k2) a b)
       (each-type (M3) 1 (meets .k3) a b)))
       (≼-map _ _ (o .preds) (d .preds) (preds-length d o shaped) (λ i rows p b a. each-pred (M6) (meets .k6) a b .1)))
-      (≼-map _ _ (allPlayed d o) (allRoles d) (roles-length d o shaped) (λ i x r b a. played-between x (at-in b) .1)))
+      (≼-map _ _ (allPlayed d o) (allRoles d) (roles-length d o shaped) (λ i x r b a. role-between a b .1)))
       (≼-map _ _ (allGrouped d o) (allGroups d) (groups-length d o shaped) (λ i x f b a. grouped-between x (at-in b) .1))

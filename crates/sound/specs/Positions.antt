@@ -4,7 +4,6 @@ use mathlib.Core.Path.{_≡_, refl, sym, ap, ap₂, _∙_}
 use mathlib.Core.List.{List, [], _∷_, _++_, map, map-append, flatMap, flatten, zipWith, List·Memᴰ·head as here, List·Memᴰ·tail as there, List·Memᴰ·not-nil}
 use native.Mathlib.Nat.{zero-add}
 use native.Mathlib.Omega.{arith}
-use lib.Dec.{eqb}
 use lib.ListN.{length, getD, length-map, length-append}
 use Rattle.counting.specs.Lists.{mapFrom, same, column, combination}
 use Rattle.counting.specs.Distinct.{distinct}
@@ -13,14 +12,11 @@ use Rattle.counting.specs.Laws.Index.{At, first, later, below-at, at-getD, at-m
 use Rattle.orm.specs.Diagram.{Role, Frequency, Predicate, Diagram, index, allRoles, allGroups}
 use Rattle.orm.specs.Sets.{firstPred, firstRole, firstGroup, rolesInGroup, groupSet, Placed, placedFrom, placed}
 use Rattle.orm.specs.Population.{Population}
-use Rattle.orm.specs.Constraints.{Played, Grouped, played, grouped, allPlayed, allGrouped, sizes, membersOf}
+use Rattle.orm.specs.Constraints.{Played, memberCount, Grouped, played, grouped, allPlayed, allGrouped, sizes, membersOf}
 use Rattle.orm.specs.Meaning.{Between, M1, EachType, Rows, Shaped}
 use Rattle.sound.specs.Each.{each-type}
 use Rattle.sound.specs.Counts.{columnSize, combinationSize}
 use Rattle.sound.specs.Segments.{Segment, whole, before, behind, size-at, head-size, tail, left, right}
-
-abbrev pub playedSize : Played → ℕ
-playedSize x = length (distinct eqb (x .values))
 
 abbrev pub groupedSize : Grouped → ℕ
 groupedSize x = length (distinct same (x .combinations))
@@ -62,12 +58,12 @@ pub record Found (c : List ℕ) (ps : List Predicate) (os : List (List (List ℕ
 
 module _ (c : List ℕ) where
   located-first : (x : Placed) (rows : List (List ℕ)) (os : List (List (List ℕ))) (ys : List Played) (zs : List Grouped)
-      → Segment length c (x .own) (rows ∷ os) → Segment playedSize c (x .roles) (played (x .predicate) rows ++ ys)
+      → Segment length c (x .own) (rows ∷ os) → Segment memberCount c (x .roles) (played (x .predicate) rows ++ ys)
       → Segment groupedSize c (x .groups) (grouped (x .predicate) rows ++ zs) → Located c x rows
   unfolding groupSet
   located-first x rows os ys zs o p g = record {
     own = head-size length o;
-    role = λ j h. size-at playedSize (left playedSize _ ys p) (played-at _ rows (below-at (x .predicate .roles) j h .1));
+    role = λ j h. size-at memberCount (left memberCount _ ys p) (played-at _ rows (below-at (x .predicate .roles) j h .1));
     group =
         λ n h. size-at groupedSize (left groupedSize _ zs g)
         (grouped-at _ rows (below-at (x .predicate .groups) (n - 1) (omega arith) .1) (omega arith));
@@ -75,7 +71,7 @@ module _ (c : List ℕ) where
 
   -- The walk over the predicates: `r`, `p` and `q` are the sets of the next predicate, role and group
   found : (ps : List Predicate) (os : List (List (List ℕ))) (r p q : ℕ) → Each2 Rows ps os → Segment length c r os
-      → Segment playedSize c p (flatten (zipWith played ps os)) → Segment groupedSize c q (flatten (zipWith grouped ps os)) → {x : Placed}
+      → Segment memberCount c p (flatten (zipWith played ps os)) → Segment groupedSize c q (flatten (zipWith grouped ps os)) → {x : Placed}
       → x ∈ placedFrom r p q ps → Found c ps os x
   unfolding placedFrom flatten zipWith
   found [] os r p q h o ss gs m = absurd (List·Memᴰ·not-nil m)
@@ -85,7 +81,7 @@ module _ (c : List ℕ) where
   found (y ∷ ps) (rows ∷ os) r p q h o ss gs (there m) =
       let f =
       found ps os (suc r) (p + length (y .roles)) (q + length (y .groups)) (h .1) (tail length o)
-      (right playedSize (played y rows) _ (played-length y rows) ss) (right groupedSize (grouped y rows) _ (grouped-length y rows) gs) m in
+      (right memberCount (played y rows) _ (played-length y rows) ss) (right groupedSize (grouped y rows) _ (grouped-length y rows) gs) m in
       record { rows = f .rows; index = suc (f .index); predicate-at = later (f .predicate-at); rows-at = later (f .rows-at); located = f .located }
 
 -- ---- the sets of a diagram
@@ -134,7 +130,7 @@ module _ (d : Diagram) (o : Population) (shaped : Shaped d o) where
   predSizes = map length (o .preds)
 
   abbrev roleSizes : List ℕ
-  roleSizes = map playedSize (allPlayed d o)
+  roleSizes = map memberCount (allPlayed d o)
 
   abbrev groupSizes : List ℕ
   groupSizes = map groupedSize (allGrouped d o)
@@ -148,12 +144,12 @@ module _ (d : Diagram) (o : Population) (shaped : Shaped d o) where
   preds-segment =
       before length groupSizes (before length roleSizes (behind length typeSizes (rw length-map (omega arith)) (whole length (o .preds))))
 
-  pub roles-segment : Segment playedSize (sizes d o) (firstRole d) (allPlayed d o)
+  pub roles-segment : Segment memberCount (sizes d o) (firstRole d) (allPlayed d o)
   unfolding sizes firstPred firstRole
   roles-segment =
-      before playedSize groupSizes
-      (behind playedSize (typeSizes ++ predSizes) (simp (length-append, length-map) (omega (arith, preds-length)))
-      (whole playedSize (allPlayed d o)))
+      before memberCount groupSizes
+      (behind memberCount (typeSizes ++ predSizes) (simp (length-append, length-map) (omega (arith, preds-length)))
+      (whole memberCount (allPlayed d o)))
 
   groups-segment : Segment groupedSize (sizes d o) (firstGroup d) (allGrouped d o)
   unfolding sizes firstPred firstRole firstGroup

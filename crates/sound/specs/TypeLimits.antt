@@ -21,23 +21,23 @@ use Rattle.fixpoint.specs.Notions.{Holds, Satisfies}
 use Rattle.orm.specs.Diagram.{ObjectType, Role, Diagram, index, isRoot}
 use Rattle.orm.specs.Sets.{firstRole, select, rolesOfType, limitsOfType}
 use Rattle.orm.specs.Population.{Population}
-use Rattle.orm.specs.Constraints.{Played, allPlayed, valuesInRoles, membersOf, sizes}
+use Rattle.orm.specs.Constraints.{Played, memberCount, allPlayed, valuesInRoles, membersOf, sizes}
 use Rattle.orm.specs.Meaning.{Between, MustPlay, M1, M4, M10, EachType, Meets, Shaped}
 use Rattle.orm.specs.Laws.Decided.{mustPlay-decides, in-roles}
 use Rattle.orm.specs.WellFormed.{WellFormed, TypeForm}
 use Rattle.sound.specs.Each.{each-type}
 use Rattle.sound.specs.Segments.{Segment, size-at, head-size, tail}
-use Rattle.sound.specs.Positions.{playedSize, roles-played, types-segment, roles-segment, size-of-type}
+use Rattle.sound.specs.Positions.{roles-played, types-segment, roles-segment, size-of-type}
 use Rattle.orm.specs.Laws.Limits.{each-only-if}
 use Rattle.sound.specs.Satisfied.{at-most}
 
 -- The values in some roles are at most the sum of these roles' sizes
-values-le-sum : (c : List ℕ) (number i : ℕ) (xs : List Played) → Segment playedSize c i xs
+values-le-sum : (c : List ℕ) (number i : ℕ) (xs : List Played) → Segment memberCount c i xs
     → length (distinct eqb (valuesInRoles number xs)) ≤ sumOver (λ s. getD c s 0)
     (select (λ (r : Role). eqb (r .type) number) i (map (λ (x : Played). x .role) xs))
 unfolding valuesInRoles select sumOver
 values-le-sum c number i [] s = unfold distinct in le-refl 0
-values-le-sum c number i (x ∷ xs) s = go (eqb (x .role .type) number) (values-le-sum c number (suc i) xs (tail playedSize s))
+values-le-sum c number i (x ∷ xs) s = go (eqb (x .role .type) number) (values-le-sum c number (suc i) xs (tail memberCount s))
   where
     rest : List ℕ
     rest = valuesInRoles number xs
@@ -48,7 +48,7 @@ values-le-sum c number i (x ∷ xs) s = go (eqb (x .role .type) number) (values-
     go : (b : Bool) → length (distinct eqb rest) ≤ sumOver (λ s. getD c s 0) places
         → length (distinct eqb (elim b [ true ↦ x .values ++ rest | false ↦ rest ])) ≤ sumOver (λ s. getD c s 0)
         (elim b [ true ↦ i ∷ places | false ↦ places ])
-    go true h = omega (arith, distinct-append-le eqb-decides (x .values) rest, head-size playedSize s)
+    go true h = omega (arith, distinct-append-le eqb-decides (x .values) rest, head-size memberCount s)
     go false h = h
 
 module _ (d : Diagram) (o : Population) (form : WellFormed d) (shaped : Shaped d o) (meets : Meets d o) {t : ObjectType} {a : ℕ}

@@ -6,7 +6,7 @@
 --     also under a root whose FIRST is 0, so the single value 0 can't be given this way. Every file accepted before gives the answer it gave.
 --     Errors: 4 keeps its place and covers the subtype pairs that this rule doesn't allow.
 --
--- `Before` and `CallsBefore` have the rule without it, that of document 01.
+-- `Before` and `CallsBefore` have the rule without it, that of document 01, for files of both kinds (S-8).
 use Prim.Native.Nat.{ℕ, suc, _+_, _-_, min, _≤_, _<_}
 use mathlib.Core.Path.{_≡_}
 use mathlib.Core.Logic.{_↔_}
@@ -107,17 +107,18 @@ pub record Unchanged : Type 0 where
   pub checks : (t : List ℕ) (d : Diagram) → diagramIn01 tableLine t ≡ accepted d → (space : ℕ) → checkCall t space ≡ checkCallIn01 t space
   pub populates : (t : List ℕ) (d : Diagram) → diagramIn01 tableLine t ≡ accepted d → (space : ℕ) → populateCall t space ≡ populateCallIn01 t space
   pub validates : (t : List ℕ) (d : Diagram) → diagramIn01 tableLine t ≡ accepted d → (s : List ℕ) → validateCall t s ≡ validateCallIn01 t s
-  pub prints : (input : List ℕ) (d : Diagram) → diagramIn01 textLine (take 4096 input) ≡ accepted d → program input ≡ programIn01 input
+  pub prints : (input : List ℕ) (d : Diagram) → diagramIn01 textLine (take 8192 input) ≡ accepted d → program input ≡ programIn01 input
 
 -- ---- the first lines of a file
 
--- The first line, the `types` line with this number, the lines of these types and of one type more
-abbrev pub typeLines : ℕ → List ObjectType → ObjectType → List Line
-typeLines n ts t = lineOfCount diagramLine 1 ∷ lineOfCount typesLine n ∷ map lineOfType ts ++ lineOfType t ∷ []
+-- The first line with this kind, the `types` line with this number, the lines of these types and of one type more
+abbrev pub typeLines : ℕ → ℕ → List ObjectType → ObjectType → List Line
+typeLines kind n ts t = lineOfCount diagramLine kind ∷ lineOfCount typesLine n ∷ map lineOfType ts ++ lineOfType t ∷ []
 
 -- After these types, which have no fault, nothing that comes before FIRST and LAST is wrong with the line of this type: its numbers are in range (2),
 -- SUPER is below its own number (3), and MIN is not above MAX (4)
-pub record OnlyPair (n : ℕ) (ts : List ObjectType) (t : ObjectType) : Type 0 where
+pub record OnlyPair (kind n : ℕ) (ts : List ObjectType) (t : ObjectType) : Type 0 where
+  pub kinds : Between 1 kind 2
   pub types : Between 1 n 32
   pub room : length ts < n
   pub faultless : EachFrom (TypeForm ts) 1 ts
@@ -140,6 +141,6 @@ pub record SubtypeRanges : Type 0 where
   -- 'Every file accepted before gives the answer it gave'
   pub unchanged : Unchanged
   -- 'Errors: 4 keeps its place and covers the subtype pairs that this rule doesn't allow': in a text and in a table, whatever follows
-  pub refuses : (n : ℕ) (ts : List ObjectType) (t : ObjectType) → OnlyPair n ts t → RangedSubtype t → ¬ Allowed ts t → (rest : List ℕ)
-      → (diagramIn textLine (written textForm (typeLines n ts t) ++ rest) ≡ refused 4 (3 + length ts) 0)
-      × (diagramIn tableLine (written tableForm (typeLines n ts t) ++ rest) ≡ refused 4 (3 + length ts) 0)
+  pub refuses : (kind n : ℕ) (ts : List ObjectType) (t : ObjectType) → OnlyPair kind n ts t → RangedSubtype t → ¬ Allowed ts t → (rest : List ℕ)
+      → (diagramIn textLine (written textForm (typeLines kind n ts t) ++ rest) ≡ refused 4 (3 + length ts) 0)
+      × (diagramIn tableLine (written tableForm (typeLines kind n ts t) ++ rest) ≡ refused 4 (3 + length ts) 0)

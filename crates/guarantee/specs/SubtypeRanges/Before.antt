@@ -10,12 +10,12 @@ use Rattle.counting.specs.Lists.{upFrom}
 use Rattle.counting.specs.Distinct.{all}
 use Rattle.counting.specs.Terms.{Each}
 use Rattle.fixpoint.specs.Limits.{Verdict, run}
-use Rattle.orm.specs.Diagram.{ObjectType, Role, Frequency, Predicate, Diagram, LineKind, diagramLine, typesLine, typeLine, predsLine, endLine, isRoot, allRoles, allGroups}
+use Rattle.orm.specs.Diagram.{ObjectType, Frequency, Predicate, Diagram, LineKind, diagramLine, typesLine, typeLine, predsLine, endLine, isRoot, allRoles, allGroups}
 use Rattle.orm.specs.Reader.{Reading, Reader, _>>=_, pure, forEach, atEnd, Cut}
 use Rattle.orm.specs.Form.{Test, _unless_, _to_, inRange, countOf, typeOf, endTests, line, count, predicates}
-use Rattle.orm.specs.Sets.{lower, limits}
+use Rattle.orm.specs.Sets.{lower, upperOfRole, limits}
 use Rattle.orm.specs.Population.{Population}
-use Rattle.orm.specs.Constraints.{Answer, eachType, eachPred, K1, K2, K4, K5, K6, K7, K8, K9, K10, firstBroken}
+use Rattle.orm.specs.Constraints.{Answer, eachType, eachPred, K1, K2, K4, K5, K6, K7, K8, K9, K10, K11, firstBroken}
 use Rattle.orm.specs.Outcome.{Outcome, outcomeOf}
 
 -- 'A subtype writes 0,0 there'
@@ -41,12 +41,12 @@ module _ (next : LineKind → List ℕ → Cut) where
 
   unfoldable pub diagramLinesIn01 : Reader Diagram
   diagramLinesIn01 = do
-    one ← count next diagramLine
+    kind ← count next diagramLine
     t ← count next typesLine
     ts ← typesIn01 (upFrom 1 t)
     p ← count next predsLine
-    ps ← predicates next t 0 0 p
-    let d : Diagram = record { types = ts; preds = ps }
+    ps ← predicates next kind t 0 0 p
+    let d : Diagram = record { kind = kind; types = ts; preds = ps }
     n ← line next endLine countOf (endTests (length (allRoles d)))
     pure d
 
@@ -64,7 +64,7 @@ diagramIn01 next s = outcomeOf (readingIn01 next s)
 
 -- ---- the rounds and the constraints
 
--- 'root, the smaller of MAX and LAST - FIRST + 1; subtype and predicate, MAX; role and group, 4096'
+-- 'root, the smaller of MAX and LAST - FIRST + 1; subtype and predicate, MAX'
 unfoldable pub upperOfTypeIn01 : ObjectType → ℕ
 upperOfTypeIn01 t = elim (isRoot t) [ true ↦ min (t .max) (t .last - t .first + 1) | false ↦ t .max ]
 
@@ -72,7 +72,7 @@ unfoldable pub upperIn01 : Diagram → List ℕ
 upperIn01 d =
     map upperOfTypeIn01 (d .types)
     ++ map (λ (p : Predicate). p .max) (d .preds)
-    ++ map (λ (r : Role). 4096) (allRoles d)
+    ++ map upperOfRole (allRoles d)
     ++ map (λ (f : Frequency). 4096) (allGroups d)
 
 abbrev pub verdictIn01 : Diagram → Verdict
@@ -88,7 +88,7 @@ constraintsIn01 d o =
     let ofPreds : (Predicate → List (List ℕ) → Bool) → List Bool = λ k. eachPred k (d .preds) (o .preds) in
     ofTypes (λ n. K1) ∷ ofTypes (λ n. K2) ∷ ofTypes (λ n. K3In01) ∷ ofTypes (λ n. K4 o)
     ∷ ofPreds K5 ∷ ofPreds K6 ∷ ofPreds (K7 o) ∷ ofPreds (K8 o) ∷ ofPreds K9
-    ∷ ofTypes (K10 d o) ∷ []
+    ∷ ofTypes (K10 d o) ∷ ofPreds K11 ∷ []
 
 abbrev pub answerIn01 : Diagram → Population → Answer
 answerIn01 d o = firstBroken 1 (constraintsIn01 d o)

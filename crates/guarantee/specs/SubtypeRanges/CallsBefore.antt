@@ -34,4 +34,4 @@ reportIn01 d v =
     >>= λ w. accepted (report (s .rounds) (s .result) (population d (s .result)))
 
 abbrev pub programIn01 : List ℕ → List ℕ
-programIn01 input = output (diagramIn01 textLine (take 4096 input) >>= λ d. reportIn01 d (verdictIn01 d))
+programIn01 input = output (diagramIn01 textLine (take 8192 input) >>= λ d. reportIn01 d (verdictIn01 d))

@@ -15,14 +15,14 @@ use Rattle.counting.specs.Distinct.{all}
 use Rattle.counting.specs.Terms.{Each}
 use Rattle.counting.specs.Laws.Members.{each-nil, each-cons, each-head, each-tail}
 use Rattle.counting.specs.Laws.Maps.{map-congr}
-use Rattle.orm.specs.Diagram.{ObjectType, Role, Frequency, Predicate, Diagram, LineKind, diagramLine, typesLine, typeLine, predsLine, endLine, isRoot, allRoles, allGroups}
+use Rattle.orm.specs.Diagram.{ObjectType, Frequency, Predicate, Diagram, LineKind, diagramLine, typesLine, typeLine, predsLine, endLine, isRoot, allRoles, allGroups}
 use Rattle.orm.specs.Supertypes.{hasRange}
 use Rattle.orm.specs.Reader.{Reading, rejected, read, Reader, _>>=_, pure, forEach, atEnd, Cut, broken, cut}
 use Rattle.orm.specs.Laws.Readers.{bind-cases}
 use Rattle.orm.specs.Form.{_unless_, firstOf, _to_, inRange, inRanges, ranges, countOf, typeOf, endTests, withinSuper, valuesInOrder, typeTests, line, count, typesAfter, predicates, diagramLines, wholeDiagram, reading}
 use Rattle.orm.specs.Outcome.{refused, accepted, outcomeOf}
 use Rattle.orm.specs.Calls.{diagramIn}
-use Rattle.orm.specs.Sets.{upperOfType, upper}
+use Rattle.orm.specs.Sets.{upperOfType, upperOfRole, upper}
 use Rattle.orm.specs.Population.{Population}
 use Rattle.orm.specs.Constraints.{eachType, K3, constraints}
 use Rattle.guarantee.specs.SubtypeRanges.Before.{WritesNone, WithoutRanges, valuesInOrderIn01, typeTestsIn01, typesIn01, diagramLinesIn01, wholeDiagramIn01, readingIn01, diagramIn01}
@@ -184,31 +184,31 @@ module _ (next : LineKind → List ℕ → Cut) where
           each-head _ (rw z at w)
 
   -- the lines after the types; the diagram that they make has these types
-  afterTypes : ℕ → List ObjectType → Reader Diagram
-  afterTypes t ts = do
+  afterTypes : ℕ → ℕ → List ObjectType → Reader Diagram
+  afterTypes kind t ts = do
     p ← count next predsLine
-    ps ← predicates next t 0 0 p
-    let d : Diagram = record { types = ts; preds = ps }
+    ps ← predicates next kind t 0 0 p
+    let d : Diagram = record { kind = kind; types = ts; preds = ps }
     n ← line next endLine countOf (endTests (length (allRoles d)))
     pure d
 
-  types-of : (t : ℕ) (ts : List ObjectType) (n : ℕ) (s : List ℕ) {d : Diagram} {k : ℕ} {rest : List ℕ}
-      → afterTypes t ts n s ≡ read d k rest → d .types ≡ ts
+  types-of : (kind t : ℕ) (ts : List ObjectType) (n : ℕ) (s : List ℕ) {d : Diagram} {k : ℕ} {rest : List ℕ}
+      → afterTypes kind t ts n s ≡ read d k rest → d .types ≡ ts
   unfolding afterTypes
-  types-of t ts n s {d} e =
+  types-of kind t ts n s {d} e =
       bind-cases (count next predsLine) _ n s e λ p i u h e′.
-      bind-cases (predicates next t 0 0 p) _ i u e′ λ ps j v h′ e″.
-      bind-cases (line next endLine countOf (endTests (length (allRoles (record { types = ts; preds = ps }))))) _ j v e″ λ m l x h″ e‴.
-      let z : d ≡ record { types = ts; preds = ps } = cc in
+      bind-cases (predicates next kind t 0 0 p) _ i u e′ λ ps j v h′ e″.
+      bind-cases (line next endLine countOf (endTests (length (allRoles (record { kind = kind; types = ts; preds = ps }))))) _ j v e″ λ m l x h″ e‴.
+      let z : d ≡ record { kind = kind; types = ts; preds = ps } = cc in
       ap (λ (x : Diagram). x .types) z
 
   lines-kept : KeptBy WithoutRanges (diagramLinesIn01 next) (diagramLines next)
   unfolding diagramLinesIn01 diagramLines afterTypes
   lines-kept =
-      kept-after (count next diagramLine) _ _ λ one.
+      kept-after (count next diagramLine) _ _ λ kind.
       kept-after (count next typesLine) _ _ λ t.
-      kept-bind (typesIn01 next (upFrom 1 t)) (typesAfter next [] t) (afterTypes t) (afterTypes t) (types-kept [] t)
-      (λ ts ws n s. same refl (λ d k rest e. rw (types-of t ts n s e) ws)) (λ ts n s d k rest e w. rw (types-of t ts n s e) at w)
+      kept-bind (typesIn01 next (upFrom 1 t)) (typesAfter next [] t) (afterTypes kind t) (afterTypes kind t) (types-kept [] t)
+      (λ ts ws n s. same refl (λ d k rest e. rw (types-of kind t ts n s e) ws)) (λ ts n s d k rest e w. rw (types-of kind t ts n s e) at w)
 
   reading-kept : (s : List ℕ) → Kept WithoutRanges (readingIn01 next s) (reading next s)
   unfolding readingIn01 reading wholeDiagramIn01 wholeDiagram
@@ -258,7 +258,7 @@ module _ (d : Diagram) (plain : WithoutRanges d) where
   unfolding upper upperIn01
   same-uppers =
       ap (λ (l : List ℕ).
-      l ++ map (λ (p : Predicate). p .max) (d .preds) ++ map (λ (r : Role). 4096) (allRoles d) ++ map (λ (f : Frequency). 4096) (allGroups d))
+      l ++ map (λ (p : Predicate). p .max) (d .preds) ++ map upperOfRole (allRoles d) ++ map (λ (f : Frequency). 4096) (allGroups d))
       (map-congr upperOfType upperOfTypeIn01 (d .types) (λ t m. same-upper t (plain t m)))
 
   same-tests : (n : ℕ) (ts : List ObjectType) (os : List (List ℕ)) → Each WritesNone ts → eachType (λ n. K3) n ts os ≡ eachType (λ n. K3In01) n ts os

@@ -4,16 +4,17 @@ use native.Mathlib.Nat.{le-trans, min-le-right}
 use native.Mathlib.Omega.{arith}
 use mathlib.Core.Path.{_≡_, refl, sym, ap, fun-ext, _∙_}
 use mathlib.Core.Logic.{_↔_, inr, ⊎-elim}
-use mathlib.Core.Bool.{Bool, true, false, _&&_, false≢true}
+use mathlib.Core.Bool.{Bool, true, false, false≢true}
 use mathlib.Core.Option.{some}
-use mathlib.Core.List.{List, [], _∷_, List·Memᴰ·head as here, List·Memᴰ·tail as there}
+use mathlib.Core.List.{List, [], _∷_}
 use borrow.Author.Tests.{le-leb, lt-ltb}
 use lib.ListN.{length, take}
 use Rattle.counting.specs.Distinct.{all}
+use Rattle.counting.specs.Laws.Distinct.{all-fails}
 use Rattle.counting.specs.Terms.{_∈_}
 use Rattle.counting.specs.Laws.Index.{At, at-below, at-getD, below-at, each-from-at}
 use Rattle.fixpoint.specs.Limits.{run}
-use Rattle.orm.specs.Diagram.{ObjectType, Diagram, LineKind, index, table}
+use Rattle.orm.specs.Diagram.{ObjectType, Diagram, LineKind, table}
 use Rattle.orm.specs.Supertypes.{firstValue, hasRange, lastValue}
 use Rattle.orm.specs.Reader.{Cut}
 use Rattle.orm.specs.Form.{_to_, inRange, _unless_, firstOf, valuesInOrder, typeTests}
@@ -82,14 +83,9 @@ unfolding membersOf
 members-at o {a} {vs} h = let e : suc a - 1 ≡ a = omega arith in rw e (at-getD [] h)
 
 outside-range : (low high : ℕ) (vs : List ℕ) → all (inRange (low to high)) vs ≡ false → (v : ℕ) × (v ∈ vs) × (¬ Between low v high)
-unfolding all
-outside-range low high [] e = absurd (false≢true (sym e))
-outside-range low high (v ∷ vs) e = go (inRange (low to high) v) refl e (outside-range low high vs)
-  where
-    go : (b : Bool) → inRange (low to high) v ≡ b → (b && all (inRange (low to high)) vs) ≡ false
-        → (all (inRange (low to high)) vs ≡ false → (w : ℕ) × (w ∈ vs) × (¬ Between low w high)) → (w : ℕ) × (w ∈ (v ∷ vs)) × (¬ Between low w high)
-    go false q e rest = (v, here refl, λ h. false≢true (sym q ∙ inRange-decides low v high .1 h))
-    go true q e rest = let (w, m, n) = rest e in (w, there m, n)
+outside-range low high vs e =
+    let (v, m, f) = all-fails (inRange (low to high)) vs e in
+    (v, m, λ h. false≢true (sym f ∙ inRange-decides low v high .1 h))
 
 out-of-range : (d : Diagram) (s : List ℕ) (o : Population) {number : ℕ} → populationIn d s ≡ accepted o → Fails (λ n. K3) d o number
     → OutOfRange d s number
@@ -174,15 +170,15 @@ unchanged = record {
   validates = λ t d e s.
       still tableLine t _ _ e
       (λ plain. ap (λ (judge : Population → Answer). populationIn d s >>= λ o. accepted (judge o)) (fun-ext (same-answer d plain)));
-  prints = λ input d e. ap output (still textLine (take 4096 input) _ _ e (λ plain. ap (reportIn01 d) (same-verdict d plain)));
+  prints = λ input d e. ap output (still textLine (take 8192 input) _ _ e (λ plain. ap (reportIn01 d) (same-verdict d plain)));
 }
 
 -- ---- a pair that is not allowed
 
-four : (n : ℕ) (ts : List ObjectType) (t : ObjectType) → OnlyPair n ts t → RangedSubtype t → ¬ Allowed ts t
+four : (kind n : ℕ) (ts : List ObjectType) (t : ObjectType) → OnlyPair kind n ts t → RangedSubtype t → ¬ Allowed ts t
     → firstOf (typeTests (suc (length ts)) ts t) ≡ some 4
 unfolding typeTests firstOf
-four n ts t o r not-allowed =
+four kind n ts t o r not-allowed =
     rw (lt-ltb (t .super) (suc (length ts)) (o .above), le-leb (t .min) (t .max) (o .sizes), firstOf) (go (valuesInOrder ts t) refl)
   where
     go : (b : Bool) → valuesInOrder ts t ≡ b → firstOf (4 unless b ∷ []) ≡ some 4
@@ -199,10 +195,10 @@ subtype-ranges = record {
   nearest-is = λ {d} w a. nearest-reached (d .types) (form-supers (d .types) (d .types) (w .types)) a;
   none-given = none-given;
   unchanged = unchanged;
-  refuses = λ n ts t o r not-allowed rest.
+  refuses = λ kind n ts t o r not-allowed rest.
       let types = all-types-iff ts .1 (o .faultless) in
-      let fails = four n ts t o r not-allowed in (
-        diagram-refused textForm textLine text-cuts ts t (o .in-ranges) fails n (o .types) types (o .room) rest,
-        diagram-refused tableForm tableLine table-cuts ts t (o .in-ranges) fails n (o .types) types (o .room) rest,
+      let fails = four kind n ts t o r not-allowed in (
+        diagram-refused textForm textLine text-cuts ts t (o .in-ranges) fails kind (o .kinds) n (o .types) types (o .room) rest,
+        diagram-refused tableForm tableLine table-cuts ts t (o .in-ranges) fails kind (o .kinds) n (o .types) types (o .room) rest,
       );
 }

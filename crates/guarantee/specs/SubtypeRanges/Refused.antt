@@ -8,21 +8,16 @@ use mathlib.Core.List.{List, [], _∷_, _++_, map, append-assoc, append-nil}
 use lib.Dec.{lit≤}
 use lib.ListN.{length, length-append}
 use Rattle.orm.specs.Diagram.{ObjectType, Line, LineKind, diagramLine, typesLine, typeLine, lineOfCount, lineOfType}
-use Rattle.orm.specs.Reader.{Reading, rejected, read, Reader, _>>=_, Cut}
+use Rattle.orm.specs.Reader.{rejected, Cut}
 use Rattle.orm.specs.Form.{firstOf, ranges, inRanges, typeOf, typeTests, line, count, typesAfter, diagramLines, wholeDiagram, reading}
 use Rattle.orm.specs.Outcome.{refused, outcomeOf}
 use Rattle.orm.specs.Calls.{diagramIn}
-use Rattle.orm.specs.Laws.Readers.{bind-read}
+use Rattle.orm.specs.Laws.Readers.{bind-read, bind-rejected}
 use Rattle.orm.specs.Meaning.{Between}
 use Rattle.reading.specs.Exact.{written, written-append}
 use Rattle.reading.specs.Lines.{Cuts}
 use Rattle.reading.specs.Kinds.{type-refused, type-exact, count-exact}
 use Rattle.reading.specs.Types.{NextTypes}
-
--- a reader that refuses refuses whatever follows
-bind-rejected : {A B : Type 0} (m : Reader A) (f : A → Reader B) {n c place : ℕ} {s : List ℕ} → m n s ≡ rejected c place
-    → (m >>= f) n s ≡ rejected c place
-bind-rejected {A} {B} m f e = ap (λ (r : Reading A). elim r as (λ _. Reading B) [ rejected c at ↦ rejected c at | read a i t ↦ f a i t ]) e
 
 module _ (form : LineKind → List ℕ → List ℕ) (next : LineKind → List ℕ → Cut) (cuts : Cuts form next) where
   -- one line before others
@@ -52,25 +47,25 @@ module _ (form : LineKind → List ℕ → List ℕ) (next : LineKind → List �
         (types-refused (before ++ u ∷ []) ts left (append-assoc before (u ∷ []) ts ∙ e) (w .1) (omega arith) (omega arith) (n + 1) rest)
         ∙ ap (rejected c) place)
 
-    pub diagram-refused : (n : ℕ) → Between 1 n 32 → NextTypes [] (length all) all → length all < n → (rest : List ℕ)
-        → diagramIn next (written form (lineOfCount diagramLine 1 ∷ lineOfCount typesLine n ∷ map lineOfType all ++ lineOfType t ∷ []) ++ rest)
+    pub diagram-refused : (kind : ℕ) → Between 1 kind 2 → (n : ℕ) → Between 1 n 32 → NextTypes [] (length all) all → length all < n → (rest : List ℕ)
+        → diagramIn next (written form (lineOfCount diagramLine kind ∷ lineOfCount typesLine n ∷ map lineOfType all ++ lineOfType t ∷ []) ++ rest)
         ≡ refused c (3 + length all) 0
     unfolding diagramIn reading wholeDiagram diagramLines outcomeOf
-    diagram-refused n few w room rest =
+    diagram-refused kind kinds n few w room rest =
         ap outcomeOf (bind-rejected (diagramLines next) _ lines-refused)
       where
         after-count : List Line
         after-count = map lineOfType all ++ lineOfType t ∷ []
 
-        lines-refused : diagramLines next 1 (written form (lineOfCount diagramLine 1 ∷ lineOfCount typesLine n ∷ after-count) ++ rest)
+        lines-refused : diagramLines next 1 (written form (lineOfCount diagramLine kind ∷ lineOfCount typesLine n ∷ after-count) ++ rest)
             ≡ rejected c (3 + length all)
         lines-refused =
             rw (
-              first-line (lineOfCount diagramLine 1) (lineOfCount typesLine n ∷ after-count) rest,
+              first-line (lineOfCount diagramLine kind) (lineOfCount typesLine n ∷ after-count) rest,
               first-line (lineOfCount typesLine n) after-count rest,
             )
-            (bind-read (count next diagramLine) _ 1 _ 1 2 _
-            (count-exact form next cuts diagramLine 1 1 (unfold ranges in refl) (lit≤ tt) .every 1 (omega arith) 1 _)
+            (bind-read (count next diagramLine) _ 1 _ kind 2 _
+            (count-exact form next cuts diagramLine 1 2 (unfold ranges in refl) (lit≤ tt) .every kind kinds 1 _)
             ∙ bind-read (count next typesLine) _ 2 _ n 3 _
             (count-exact form next cuts typesLine 1 32 (unfold ranges in refl) (lit≤ tt) .every n few 2 _)
             ∙ bind-rejected (typesAfter next [] n) _ (types-refused [] all n refl w (omega arith) room 3 rest))

@@ -1,13 +1,15 @@
 -- The first fault of a line, test by test.
 use Prim.Native.Nat.{ℕ, _+_}
-use mathlib.Core.Path.{_≡_, refl}
+use mathlib.Core.Path.{_≡_, refl, ap}
 use mathlib.Core.Bool.{Bool, true, false}
 use mathlib.Core.Option.{Option, none, some}
 use mathlib.Core.List.{List, [], _∷_}
 use lib.Dec.{leb, ltb, eqb}
 use lib.ListN.{getD}
-use Rattle.orm.specs.Diagram.{LineKind, typeLine, predLine, roleLine, freqLine, endLine}
+use Rattle.orm.specs.Diagram.{LineKind, typeLine, predLine, freqLine, endLine, roleLineOf}
 use Rattle.orm.specs.Form.{ranges, inRanges, Test, _unless_, firstOf, mostRoles, mostGroups, countOf, typeOf, roleOf, groupOf, headOf, predTests, roleTests, endTests}
+use Rattle.lexer.specs.declared.Kind.{Kind}
+use Rattle.lexer.specs.Cuts.{kindOf}
 use Rattle.grammar.specs.declared.Verdict.{Verdict}
 use Rattle.grammar.specs.Fault.{faultOf, unlessOf}
 use Rattle.grammar.specs.Step.{faultIn, typeTestsIf, freqTests}
@@ -54,16 +56,19 @@ pred-verdict roles groups v r r₃ r₄ r₅ h₀ h₁ h₂ h₃ h₄ h₅ h₆ 
     (then 2 (leb (groups + getD v 3 0) 48) _
     (then 4 (leb (getD v 0 0) (getD v 1 0)) [] no-more))))
 
-pub role-verdict : (types groups : ℕ) (v : List ℕ) {x₀ x₂ : ℕ} {b₂ b₃ b₄ : Bool} (r r₃ r₄ : Verdict)
-    → faultOf r ≡ unlessOf 2 b₂ (faultOf r₃) → b₂ ≡ inRanges (ranges roleLine) v
+pub role-verdict : (kind types groups : ℕ) (v : List ℕ) {x₀ x₂ : ℕ} {b₂ b₃ b₄ b₅ : Bool} (k : Kind) (r r₃ r₄ r₅ : Verdict)
+    → faultOf r ≡ unlessOf 2 b₂ (faultOf r₃) → b₂ ≡ inRanges (ranges (kindOf k)) v → kindOf k ≡ roleLineOf kind
     → faultOf r₃ ≡ unlessOf 3 b₃ (faultOf r₄) → b₃ ≡ leb x₀ types → x₀ ≡ getD v 0 0
-    → faultOf r₄ ≡ unlessOf 3 b₄ none → b₄ ≡ leb x₂ groups → x₂ ≡ getD v 2 0
-    → faultOf r ≡ faultIn roleLine v (roleTests types groups (roleOf v))
+    → faultOf r₄ ≡ unlessOf 3 b₄ (faultOf r₅) → b₄ ≡ leb x₂ groups → x₂ ≡ getD v 2 0
+    → faultOf r₅ ≡ unlessOf 4 b₅ none → b₅ ≡ leb (roleOf kind v .rmin) (roleOf kind v .rmax)
+    → faultOf r ≡ faultIn (roleLineOf kind) v (roleTests types groups (roleOf kind v))
 unfolding roleTests
-role-verdict types groups v r r₃ r₄ h₀ h₁ h₂ h₃ h₄ h₅ h₆ h₇ =
-    cc (then 2 (inRanges (ranges roleLine) v) _
+role-verdict kind types groups v k r r₃ r₄ r₅ h₀ h₁ hk h₂ h₃ h₄ h₅ h₆ h₇ h₈ h₉ =
+    let ranged : inRanges (ranges (kindOf k)) v ≡ inRanges (ranges (roleLineOf kind)) v = ap (λ (l : LineKind). inRanges (ranges l) v) hk in
+    cc (then 2 (inRanges (ranges (roleLineOf kind)) v) _
     (then 3 (leb (getD v 0 0) types) _
-    (then 3 (leb (getD v 2 0) groups) [] no-more)))
+    (then 3 (leb (getD v 2 0) groups) _
+    (then 4 (leb (roleOf kind v .rmin) (roleOf kind v .rmax)) [] no-more))))
 
 pub freq-verdict : (used : Bool) (v : List ℕ) {x₀ x₁ : ℕ} {b₂ b₃ : Bool} (r r₃ r₄ : Verdict)
     → faultOf r ≡ unlessOf 2 b₂ (faultOf r₃) → b₂ ≡ inRanges (ranges freqLine) v

@@ -7,9 +7,11 @@ use mathlib.Core.List.{List, []}
 use native.Mathlib.Omega.{arith}
 use lib.ListN.{length, getD, drop}
 use Rattle.reading.specs.WideTable.{mostNumbers}
-use Rattle.orm.specs.Diagram.{diagramLine, typesLine, typeLine, predsLine, predLine, roleLine, freqLine, endLine}
-use Rattle.orm.specs.Form.{roleFields, countOf, typeOf, roleOf, groupOf, headOf, valuesInOrder, typeTests, predTests, roleTests, named, groupTests, endTests}
+use Rattle.orm.specs.Diagram.{diagramLine, typesLine, typeLine, predsLine, predLine, freqLine, endLine, roleLineOf}
+use Rattle.orm.specs.Form.{countOf, typeOf, roleOf, groupOf, headOf, valuesInOrder, typeTests, predTests, roleTests, named, groupTests, endTests}
 use Rattle.reading.specs.Walk.{typesIn, typeTestsAt, rolesAt}
+use Rattle.lexer.specs.declared.Kind.{Kind}
+use Rattle.lexer.specs.Cuts.{kindOf, fieldsOf}
 use Rattle.grammar.specs.declared.Fault.{Fault}
 use Rattle.grammar.specs.declared.Verdict.{Verdict}
 use Rattle.grammar.specs.declared.Verdict.the-variants as verdict
@@ -19,7 +21,7 @@ use Rattle.grammar.specs.declared.Awaited.{Awaited}
 use Rattle.grammar.specs.declared.Awaited.the-variants.{AtDiagram, AtTypes, AtType, AtPreds, AtPred, AtRole, AtFreq, AtEnd, Over}
 use Rattle.grammar.specs.declared.Step.{Step}
 use Rattle.grammar.specs.Fault.{numberOf, faultOf}
-use Rattle.grammar.specs.Awaited.{countsOf, blockOf, withLeft, typesFrom, predsLeft, predsFrom, groupsFrom, rolesFrom, kindAt, fieldsAt, isGoing, countsAt}
+use Rattle.grammar.specs.Awaited.{roleFieldsOf, countsOf, blockOf, withLeft, typesFrom, predsLeft, predsFrom, groupsFrom, rolesFrom, kindAt, fieldsAt, isGoing, countsAt}
 use Rattle.grammar.specs.Step.{faultIn, typeTestsIf, freqTests, testsAt, nextAt, refusing, going, stepOf, stepped, stepAt, typeStep, predStep}
 use Rattle.grammar.specs.Room.{RoomAt, Room}
 
@@ -32,14 +34,22 @@ faulty-next p f e = rw e
 pub counts-arm : {p q : Awaited} {r : Counts} → p ≡ q → r ≡ countsAt q → r ≡ countsAt p
 counts-arm e w = rw e w
 
+-- the kind of the line before a role
+module _ {p : Awaited} (b : Block) (left : ℕ) (r : Kind) (e : p ≡ AtRole b left) where
+  pub role-kind-arm : kindOf r ≡ roleLineOf (b .counts .kind) → kindOf r ≡ kindAt p
+  role-kind-arm w = rw e w
+
+  pub role-fields-arm : fieldsOf r ≡ roleFieldsOf (b .counts .kind) → fieldsOf r ≡ fieldsAt p
+  role-fields-arm w = rw e w
+
 -- ---- the number of lines left is 0, or one more than what is left then
 
-pub types-none : (types own left : ℕ) → left ≡ 0 → AtPreds types ≡ typesFrom types own left
-types-none types own left e = rw e
+pub types-none : (kind types own left : ℕ) → left ≡ 0 → AtPreds kind types ≡ typesFrom kind types own left
+types-none kind types own left e = rw e
 
-pub types-some : (types own left : ℕ) → (left ≡ 0 → ⊥) → AtType types own (left - 1) ≡ typesFrom types own left
-types-some types own zero n = absurd (n refl)
-types-some types own (suc left) n = let p : suc left - 1 ≡ left = omega arith in ap (λ (k : ℕ). AtType types own k) p
+pub types-some : (kind types own left : ℕ) → (left ≡ 0 → ⊥) → AtType kind types own (left - 1) ≡ typesFrom kind types own left
+types-some kind types own zero n = absurd (n refl)
+types-some kind types own (suc left) n = let p : suc left - 1 ≡ left = omega arith in ap (λ (k : ℕ). AtType kind types own k) p
 
 pub preds-none : (c : Counts) → c .left ≡ 0 → AtEnd c ≡ predsFrom c
 preds-none c e = rw e
@@ -49,7 +59,7 @@ some-left c zero n = absurd (n refl)
 some-left c (suc left) n = let p : suc left - 1 ≡ left = omega arith in ap (λ (k : ℕ). AtPred (withLeft c k)) p
 
 pub preds-some : (c : Counts) → (c .left ≡ 0 → ⊥)
-    → AtPred (record { types = c .types; preds = c .preds; left = c .left - 1; roles = c .roles; groups = c .groups }) ≡ predsFrom c
+    → AtPred (record { kind = c .kind; types = c .types; preds = c .preds; left = c .left - 1; roles = c .roles; groups = c .groups }) ≡ predsFrom c
 preds-some c n = some-left c (c .left) n
 
 pub groups-none : (b : Block) (own left : ℕ) {r : Awaited} → left ≡ 0 → r ≡ predsFrom (b .counts) → r ≡ groupsFrom b own left
@@ -68,15 +78,15 @@ roles-some b (suc left) n = let p : suc left - 1 ≡ left = omega arith in ap (�
 
 -- ---- a type's line
 
-pub type-step : (t own left : ℕ) (ordered : Bool) (v : List ℕ) (r : Step) {o : Option ℕ} {next : Awaited} → stepOf r ≡ stepped o next
-    → o ≡ faultIn typeLine v (typeTestsIf ordered own (typeOf v)) → next ≡ typesFrom t (own + 1) left → stepOf r ≡ typeStep t own left ordered v
-type-step t own left ordered v r w f g = rw (← f, ← g) w
+pub type-step : (kind t own left : ℕ) (ordered : Bool) (v : List ℕ) (r : Step) {o : Option ℕ} {next : Awaited} → stepOf r ≡ stepped o next
+    → o ≡ faultIn typeLine v (typeTestsIf ordered own (typeOf v)) → next ≡ typesFrom kind t (own + 1) left → stepOf r ≡ typeStep kind t own left ordered v
+type-step kind t own left ordered v r w f g = rw (← f, ← g) w
 
 -- ---- a predicate's line
 
 pub block-is : (c : Counts) (first : ℕ) (v : List ℕ) {x y : ℕ} → x ≡ getD v 2 0 → y ≡ getD v 3 0
     → _≡_ {A = Block} (record {
-      counts = record { types = c .types; preds = c .preds; left = c .left; roles = c .roles + x; groups = c .groups + y };
+      counts = record { kind = c .kind; types = c .types; preds = c .preds; left = c .left; roles = c .roles + x; groups = c .groups + y };
       first = first;
       roles = x;
       groups = y;
@@ -96,19 +106,19 @@ module _ {p : Awaited} (v : List ℕ) (l : length v ≡ fieldsAt p) where
   pub diagram-sized : p ≡ AtDiagram → length v ≡ 1
   diagram-sized e = rw e at l
 
-  pub types-sized : p ≡ AtTypes → length v ≡ 1
-  types-sized e = rw e at l
+  pub types-sized : (kind : ℕ) → p ≡ AtTypes kind → length v ≡ 1
+  types-sized kind e = rw e at l
 
-  pub type-sized : (t o left : ℕ) → p ≡ AtType t o left → length v ≡ 6
-  type-sized t o left e = rw e at l
+  pub type-sized : (kind t o left : ℕ) → p ≡ AtType kind t o left → length v ≡ 6
+  type-sized kind t o left e = rw e at l
 
-  pub preds-sized : (t : ℕ) → p ≡ AtPreds t → length v ≡ 1
-  preds-sized t e = rw e at l
+  pub preds-sized : (kind t : ℕ) → p ≡ AtPreds kind t → length v ≡ 1
+  preds-sized kind t e = rw e at l
 
   pub pred-sized : (c : Counts) → p ≡ AtPred c → length v ≡ 4
   pred-sized c e = rw e at l
 
-  pub role-sized : (b : Block) (left : ℕ) → p ≡ AtRole b left → length v ≡ roleFields
+  pub role-sized : (b : Block) (left : ℕ) → p ≡ AtRole b left → length v ≡ roleFieldsOf (b .counts .kind)
   role-sized b left e = rw e at l
 
   pub freq-sized : (b : Block) (o left : ℕ) → p ≡ AtFreq b o left → length v ≡ 2
@@ -122,7 +132,7 @@ module _ {p : Awaited} {read : ℕ} (w : Room p read) where
   known : (q : Awaited) → p ≡ q → RoomAt q read
   known q e = subst (λ (q : Awaited). RoomAt q read) e (w .known)
 
-  pub type-own : {t left : ℕ} (own : ℕ) → p ≡ AtType t own left → own ≤ 32
+  pub type-own : {kind t left : ℕ} (own : ℕ) → p ≡ AtType kind t own left → own ≤ 32
   type-own own e = let k = known _ e in omega arith
 
   pub pred-roles : (c : Counts) → p ≡ AtPred c → c .roles ≤ 96
@@ -156,26 +166,26 @@ module _ (s v : List ℕ) (r : Step) {o : Option ℕ} where
   unfolding stepAt
   leads p w f g = rw (← f, ← g) w
 
-  pub diagram-leads : stepOf r ≡ stepped o AtTypes → o ≡ faultIn diagramLine v [] → stepOf r ≡ stepAt AtDiagram s v
-  diagram-leads w f = leads AtDiagram w f refl
+  pub diagram-leads : {x : ℕ} → stepOf r ≡ stepped o (AtTypes x) → o ≡ faultIn diagramLine v [] → x ≡ getD v 0 0 → stepOf r ≡ stepAt AtDiagram s v
+  diagram-leads w f q = leads AtDiagram w f (ap AtTypes q)
 
-  pub types-leads : {next : Awaited} {x : ℕ} → stepOf r ≡ stepped o next
-      → o ≡ faultIn typesLine v [] → next ≡ typesFrom x 1 x → x ≡ getD v 0 0 → stepOf r ≡ stepAt AtTypes s v
-  types-leads w f g q = leads AtTypes w f (rw q at g)
+  pub types-leads : {next : Awaited} (kind : ℕ) {x : ℕ} → stepOf r ≡ stepped o next
+      → o ≡ faultIn typesLine v [] → next ≡ typesFrom kind x 1 x → x ≡ getD v 0 0 → stepOf r ≡ stepAt (AtTypes kind) s v
+  types-leads kind w f g q = leads (AtTypes kind) w f (rw q at g)
 
-  pub preds-leads : {next : Awaited} (t : ℕ) {x : ℕ} {c : Counts} → stepOf r ≡ stepped o next
-      → o ≡ faultIn predsLine v [] → next ≡ predsFrom c → c ≡ countsOf t x → x ≡ getD v 0 0
-      → stepOf r ≡ stepAt (AtPreds t) s v
-  preds-leads t w f g h q = leads (AtPreds t) w f (rw (h, q) at g)
+  pub preds-leads : {next : Awaited} (kind t : ℕ) {x : ℕ} {c : Counts} → stepOf r ≡ stepped o next
+      → o ≡ faultIn predsLine v [] → next ≡ predsFrom c → c ≡ countsOf kind t x → x ≡ getD v 0 0
+      → stepOf r ≡ stepAt (AtPreds kind t) s v
+  preds-leads kind t w f g h q = leads (AtPreds kind t) w f (rw (h, q) at g)
 
   pub role-leads : {next : Awaited} (b : Block) (left : ℕ) → stepOf r ≡ stepped o next
-      → o ≡ faultIn roleLine v (roleTests (b .counts .types) (b .groups) (roleOf v)) → next ≡ rolesFrom b left
+      → o ≡ faultIn (roleLineOf (b .counts .kind)) v (roleTests (b .counts .types) (b .groups) (roleOf (b .counts .kind) v)) → next ≡ rolesFrom b left
       → stepOf r ≡ stepAt (AtRole b left) s v
   role-leads b left w f g = leads (AtRole b left) w f g
 
   pub freq-leads : {next : Awaited} {used : Bool} (b : Block) (own left : ℕ) → stepOf r ≡ stepped o next
       → o ≡ faultIn freqLine v (freqTests used (groupOf v))
-      → used ≡ named own (rolesAt s (b .first) (b .roles)) → next ≡ groupsFrom b (own + 1) left
+      → used ≡ named own (rolesAt (b .counts .kind) (b .roles) (drop (b .first) s)) → next ≡ groupsFrom b (own + 1) left
       → stepOf r ≡ stepAt (AtFreq b own left) s v
   unfolding groupTests
   freq-leads b own left w f u g = leads (AtFreq b own left) w (rw u at f) g
@@ -190,18 +200,18 @@ module _ {p : Awaited} (s v : List ℕ) (r : Step) where
   unfolding stepAt
   diagram-arm e w = rw e w
 
-  pub types-arm : p ≡ AtTypes → stepOf r ≡ stepAt AtTypes [] v → stepOf r ≡ stepAt p s v
+  pub types-arm : (kind : ℕ) → p ≡ AtTypes kind → stepOf r ≡ stepAt (AtTypes kind) [] v → stepOf r ≡ stepAt p s v
   unfolding stepAt
-  types-arm e w = rw e w
+  types-arm kind e w = rw e w
 
-  pub type-arm : (t own left : ℕ) (ordered : Bool) → p ≡ AtType t own left → stepOf r ≡ typeStep t own left ordered v
+  pub type-arm : (kind t own left : ℕ) (ordered : Bool) → p ≡ AtType kind t own left → stepOf r ≡ typeStep kind t own left ordered v
       → ordered ≡ valuesInOrder (typesIn (own - 1) (drop 2 s)) (typeOf v) → stepOf r ≡ stepAt p s v
   unfolding stepAt typeTestsAt typeTests
-  type-arm t own left ordered e w o = rw e (rw o at w)
+  type-arm kind t own left ordered e w o = rw e (rw o at w)
 
-  pub preds-arm : (t : ℕ) → p ≡ AtPreds t → stepOf r ≡ stepAt (AtPreds t) [] v → stepOf r ≡ stepAt p s v
+  pub preds-arm : (kind t : ℕ) → p ≡ AtPreds kind t → stepOf r ≡ stepAt (AtPreds kind t) [] v → stepOf r ≡ stepAt p s v
   unfolding stepAt
-  preds-arm t e w = rw e w
+  preds-arm kind t e w = rw e w
 
   pub pred-arm : (c : Counts) → p ≡ AtPred c → stepOf r ≡ predStep c (length s) v → stepOf r ≡ stepAt p s v
   unfolding stepAt

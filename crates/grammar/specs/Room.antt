@@ -22,9 +22,9 @@ pub record Own (b : Block) : Type 0 where
 -- What is known at a place after `read` numbers
 abbrev pub RoomAt : Awaited → ℕ → Type 0
 RoomAt AtDiagram read = read ≤ 0
-RoomAt AtTypes read = read ≤ 1
-RoomAt (AtType types own left) read = (read + 6 * left ≤ 188) × (own + left ≤ 32)
-RoomAt (AtPreds types) read = read ≤ 194
+RoomAt (AtTypes kind) read = read ≤ 1
+RoomAt (AtType kind types own left) read = (read + 6 * left ≤ 188) × (own + left ≤ 32)
+RoomAt (AtPreds kind types) read = read ≤ 194
 RoomAt (AtPred c) read = Within c read 4
 RoomAt (AtRole b left) read = Within (b .counts) read (roleWidth * suc left + 2 * b .groups) × Own b
 RoomAt (AtFreq b own left) read = Within (b .counts) read (2 * suc left) × Own b × (own + left ≤ 6)

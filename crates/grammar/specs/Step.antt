@@ -4,7 +4,7 @@ use mathlib.Core.Bool.{Bool}
 use mathlib.Core.Option.{Option, none, some}
 use mathlib.Core.List.{List, [], _∷_}
 use lib.Dec.{leb, ltb}
-use lib.ListN.{length, getD}
+use lib.ListN.{length, getD, drop}
 use Rattle.orm.specs.Diagram.{ObjectType, Frequency, LineKind, typeLine, predLine}
 use Rattle.orm.specs.Form.{Test, _unless_, firstOf, ranges, inRanges, countOf, typeOf, roleOf, groupOf, headOf, predTests, roleTests, groupTests, endTests}
 use Rattle.reading.specs.Walk.{typeTestsAt, rolesAt}
@@ -31,20 +31,20 @@ freqTests used f = 4 unless leb (f .fmin) (f .fmax) ∷ 5 unless used ∷ []
 -- The tests of a line with the numbers `v`, after lines with the numbers `s`: those that follow its ranges
 abbrev pub testsAt : Awaited → List ℕ → List ℕ → List Test
 testsAt AtDiagram s v = []
-testsAt AtTypes s v = []
-testsAt (AtType types own left) s v = typeTestsAt own s v
-testsAt (AtPreds types) s v = []
+testsAt (AtTypes kind) s v = []
+testsAt (AtType kind types own left) s v = typeTestsAt own s v
+testsAt (AtPreds kind types) s v = []
 testsAt (AtPred c) s v = predTests (c .roles) (c .groups) (headOf v)
-testsAt (AtRole b left) s v = roleTests (b .counts .types) (b .groups) (roleOf v)
-testsAt (AtFreq b own left) s v = groupTests (rolesAt s (b .first) (b .roles)) own (groupOf v)
+testsAt (AtRole b left) s v = roleTests (b .counts .types) (b .groups) (roleOf (b .counts .kind) v)
+testsAt (AtFreq b own left) s v = groupTests (rolesAt (b .counts .kind) (b .roles) (drop (b .first) s)) own (groupOf v)
 testsAt (AtEnd c) s v = endTests (c .roles) (countOf v)
 testsAt (Over c) s v = []
 
 abbrev pub nextAt : Awaited → List ℕ → List ℕ → Awaited
-nextAt AtDiagram s v = AtTypes
-nextAt AtTypes s v = typesFrom (getD v 0 0) 1 (getD v 0 0)
-nextAt (AtType types own left) s v = typesFrom types (own + 1) left
-nextAt (AtPreds types) s v = predsFrom (countsOf types (getD v 0 0))
+nextAt AtDiagram s v = AtTypes (getD v 0 0)
+nextAt (AtTypes kind) s v = typesFrom kind (getD v 0 0) 1 (getD v 0 0)
+nextAt (AtType kind types own left) s v = typesFrom kind types (own + 1) left
+nextAt (AtPreds kind types) s v = predsFrom (countsOf kind types (getD v 0 0))
 nextAt (AtPred c) s v = rolesFrom (blockOf c (length s + length v) v) (getD v 2 0)
 nextAt (AtRole b left) s v = rolesFrom b left
 nextAt (AtFreq b own left) s v = groupsFrom b (own + 1) left
@@ -69,8 +69,8 @@ unfoldable pub stepAt : Awaited → List ℕ → List ℕ → Consequence
 stepAt p s v = stepped (faultIn (kindAt p) v (testsAt p s v)) (nextAt p s v)
 
 -- Of the `type` line with the numbers `v`, where it is known whether its FIRST and LAST may stand there
-abbrev pub typeStep : ℕ → ℕ → ℕ → Bool → List ℕ → Consequence
-typeStep types own left ordered v = stepped (faultIn typeLine v (typeTestsIf ordered own (typeOf v))) (typesFrom types (own + 1) left)
+abbrev pub typeStep : ℕ → ℕ → ℕ → ℕ → Bool → List ℕ → Consequence
+typeStep kind types own left ordered v = stepped (faultIn typeLine v (typeTestsIf ordered own (typeOf v))) (typesFrom kind types (own + 1) left)
 
 -- Of the `pred` line with the numbers `v`, after `read` numbers
 abbrev pub predStep : Counts → ℕ → List ℕ → Consequence

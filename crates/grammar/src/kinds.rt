@@ -24,9 +24,9 @@ ghost use mathlib.Core.Path.{_≡_};
 ghost use mathlib.Core.List.{[]};
 ghost use Prim.Native.Nat.{_≤_};
 ghost use lib.ListN.{length};
-ghost use Rattle.orm.specs.Form.{roleFields};
 ghost use Rattle.reading.specs.WideTable.{mostNumbers};
 ghost use Rattle.grammar.specs.declared.Awaited.the-variants.{AtDiagram, AtTypes, AtPreds, AtRole, AtFreq, AtEnd};
+ghost use Rattle.grammar.specs.Awaited.{roleFieldsOf};
 ghost use Rattle.grammar.specs.Fault.{faultOf};
 ghost use Rattle.grammar.specs.Step.{stepOf, stepped, stepAt, typeStep, predStep};
 
@@ -44,37 +44,48 @@ pub fn diagram_line(line: &[u32]) -> Step
     requires { ⌜ length (now line) ≡ 1 ⌝ }
     ensures { λ r. ⌜ stepOf r ≡ stepAt AtDiagram [] (now (line .entry)) ⌝ }
 {
-    after_verdict(count_verdict(Kind::DiagramLine, line), Awaited::AtTypes)
+    let kind = number(line, 0);
+    after_verdict(
+        count_verdict(Kind::DiagramLine, line),
+        Awaited::AtTypes { kind },
+    )
 }
 
-pub fn types_line(line: &[u32]) -> Step
+pub fn types_line(kind: usize, line: &[u32]) -> Step
     requires { ⌜ length (now line) ≡ 1 ⌝ }
-    ensures { λ r. ⌜ stepOf r ≡ stepAt AtTypes [] (now (line .entry)) ⌝ }
+    ensures { λ r. ⌜ stepOf r ≡ stepAt (AtTypes kind) [] (now (line .entry)) ⌝ }
 {
     let count = number(line, 0);
     after_verdict(
         count_verdict(Kind::TypesLine, line),
-        types_from(count, 1, count),
+        types_from(kind, count, 1, count),
     )
 }
 
 // The type with the number `own`; `ordered`: its FIRST and LAST may stand there.
-pub fn type_line(types: usize, own: usize, left: usize, ordered: bool, line: &[u32]) -> Step
+pub fn type_line(
+    kind: usize,
+    types: usize,
+    own: usize,
+    left: usize,
+    ordered: bool,
+    line: &[u32],
+) -> Step
     requires { ⌜ own ≤ 32 ⌝ }
     requires { ⌜ length (now line) ≡ 6 ⌝ }
-    ensures { λ r. ⌜ stepOf r ≡ typeStep types own left ordered (now (line .entry)) ⌝ }
+    ensures { λ r. ⌜ stepOf r ≡ typeStep kind types own left ordered (now (line .entry)) ⌝ }
 {
     after_verdict(
         type_verdict(own, ordered, line),
-        types_from(types, own + 1, left),
+        types_from(kind, types, own + 1, left),
     )
 }
 
-pub fn preds_line(types: usize, line: &[u32]) -> Step
+pub fn preds_line(kind: usize, types: usize, line: &[u32]) -> Step
     requires { ⌜ length (now line) ≡ 1 ⌝ }
-    ensures { λ r. ⌜ stepOf r ≡ stepAt (AtPreds types) [] (now (line .entry)) ⌝ }
+    ensures { λ r. ⌜ stepOf r ≡ stepAt (AtPreds kind types) [] (now (line .entry)) ⌝ }
 {
-    let counts = counts_of(types, number(line, 0));
+    let counts = counts_of(kind, types, number(line, 0));
     after_verdict(count_verdict(Kind::PredsLine, line), preds_from(counts))
 }
 
@@ -92,12 +103,12 @@ pub fn pred_line(counts: Counts, read: usize, line: &[u32]) -> Step
 }
 
 pub fn role_line(block: Block, left: usize, line: &[u32]) -> Step
-    requires { ⌜ length (now line) ≡ roleFields ⌝ }
+    requires { ⌜ length (now line) ≡ roleFieldsOf (block .counts .kind) ⌝ }
     ensures { λ r. ⌜ stepOf r ≡ stepAt (AtRole block left) [] (now (line .entry)) ⌝ }
 {
     let counts = block.counts;
     after_verdict(
-        role_verdict(counts.types, block.groups, line),
+        role_verdict(counts.kind, counts.types, block.groups, line),
         roles_from(block, left),
     )
 }
@@ -109,7 +120,8 @@ pub fn freq_line(block: Block, own: usize, left: usize, before: &[u32], line: &[
     requires { ⌜ length (now line) ≡ 2 ⌝ }
     ensures { λ r. ⌜ stepOf r ≡ stepAt (AtFreq block own left) (now (before .entry)) (now (line .entry)) ⌝ }
 {
-    let used = is_named(own, before, block.first, block.roles);
+    let counts = block.counts;
+    let used = is_named(own, counts.kind, before, block.first, block.roles);
     after_verdict(freq_verdict(used, line), groups_from(block, own + 1, left))
 }
 

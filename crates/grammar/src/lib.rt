@@ -47,9 +47,10 @@ enum Verdict {
     Faulty(Fault),
 }
 
-// What is known from the lines before: the number of types and of predicates, the predicates whose
-// lines are still to come, and the roles and groups so far.
+// What is known from the lines before: the kind of the file, the number of types and of predicates,
+// the predicates whose lines are still to come, and the roles and groups so far.
 pub struct Counts {
+    pub kind: usize,
     pub types: usize,
     pub preds: usize,
     pub left: usize,
@@ -70,13 +71,17 @@ pub struct Block {
 // its kind follow it.
 pub enum Awaited {
     AtDiagram,
-    AtTypes,
+    AtTypes {
+        kind: usize,
+    },
     AtType {
+        kind: usize,
         types: usize,
         own: usize,
         left: usize,
     },
     AtPreds {
+        kind: usize,
         types: usize,
     },
     AtPred {

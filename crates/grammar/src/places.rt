@@ -7,8 +7,21 @@ use lexer::Kind;
 ghost use mathlib.Core.Path.{_≡_};
 ghost use Prim.Native.Nat.{_≤_};
 ghost use lib.ListN.{length};
+ghost use Rattle.orm.specs.Diagram.{roleLineOf};
 ghost use Rattle.lexer.specs.Cuts.{kindOf, fieldsOf};
-ghost use Rattle.grammar.specs.Awaited.{typesFrom, predsFrom, groupsFrom, rolesFrom, countsOf, blockOf, kindAt, fieldsAt, isGoing, countsAt};
+ghost use Rattle.grammar.specs.Awaited.{roleFieldsOf, typesFrom, predsFrom, groupsFrom, rolesFrom, countsOf, blockOf, kindAt, fieldsAt, isGoing, countsAt};
+
+// A role line in a diagram of this kind.
+pub fn role_kind(kind: usize) -> Kind
+    ensures { λ r. ⌜ kindOf r ≡ roleLineOf kind ⌝ }
+    ensures { λ r. ⌜ fieldsOf r ≡ roleFieldsOf kind ⌝ }
+{
+    if kind == 2 {
+        Kind::LimitedRoleLine
+    } else {
+        Kind::RoleLine
+    }
+}
 
 // The kind of the line that comes next; behind the last line it does not matter.
 pub fn kind_at(place: Awaited) -> Kind
@@ -17,15 +30,19 @@ pub fn kind_at(place: Awaited) -> Kind
 {
     match place {
         Awaited::AtDiagram => Kind::DiagramLine,
-        Awaited::AtTypes => Kind::TypesLine,
+        Awaited::AtTypes { kind: _ } => Kind::TypesLine,
         Awaited::AtType {
+            kind: _,
             types: _,
             own: _,
             left: _,
         } => Kind::TypeLine,
-        Awaited::AtPreds { types: _ } => Kind::PredsLine,
+        Awaited::AtPreds { kind: _, types: _ } => Kind::PredsLine,
         Awaited::AtPred { counts: _ } => Kind::PredLine,
-        Awaited::AtRole { block: _, left: _ } => Kind::RoleLine,
+        Awaited::AtRole { block, left: _ } => {
+            let counts = block.counts;
+            role_kind(counts.kind)
+        }
         Awaited::AtFreq {
             block: _,
             own: _,
@@ -42,13 +59,14 @@ pub fn is_going(place: Awaited) -> bool
 {
     match place {
         Awaited::AtDiagram => true,
-        Awaited::AtTypes => true,
+        Awaited::AtTypes { kind: _ } => true,
         Awaited::AtType {
+            kind: _,
             types: _,
             own: _,
             left: _,
         } => true,
-        Awaited::AtPreds { types: _ } => true,
+        Awaited::AtPreds { kind: _, types: _ } => true,
         Awaited::AtPred { counts: _ } => true,
         Awaited::AtRole { block: _, left: _ } => true,
         Awaited::AtFreq {
@@ -66,34 +84,36 @@ pub fn counts_at(place: Awaited) -> Counts
     ensures { λ r. ⌜ r ≡ countsAt place ⌝ }
 {
     match place {
-        Awaited::AtDiagram => counts_of(0, 0),
-        Awaited::AtTypes => counts_of(0, 0),
+        Awaited::AtDiagram => counts_of(0, 0, 0),
+        Awaited::AtTypes { kind: _ } => counts_of(0, 0, 0),
         Awaited::AtType {
+            kind: _,
             types: _,
             own: _,
             left: _,
-        } => counts_of(0, 0),
-        Awaited::AtPreds { types: _ } => counts_of(0, 0),
-        Awaited::AtPred { counts: _ } => counts_of(0, 0),
-        Awaited::AtRole { block: _, left: _ } => counts_of(0, 0),
+        } => counts_of(0, 0, 0),
+        Awaited::AtPreds { kind: _, types: _ } => counts_of(0, 0, 0),
+        Awaited::AtPred { counts: _ } => counts_of(0, 0, 0),
+        Awaited::AtRole { block: _, left: _ } => counts_of(0, 0, 0),
         Awaited::AtFreq {
             block: _,
             own: _,
             left: _,
-        } => counts_of(0, 0),
-        Awaited::AtEnd { counts: _ } => counts_of(0, 0),
+        } => counts_of(0, 0, 0),
+        Awaited::AtEnd { counts: _ } => counts_of(0, 0, 0),
         Awaited::Over { counts } => counts,
     }
 }
 
 // The place with `left` more type lines, the first of which is number `own`.
-pub fn types_from(types: usize, own: usize, left: usize) -> Awaited
-    ensures { λ r. ⌜ r ≡ typesFrom types own left ⌝ }
+pub fn types_from(kind: usize, types: usize, own: usize, left: usize) -> Awaited
+    ensures { λ r. ⌜ r ≡ typesFrom kind types own left ⌝ }
 {
     if left == 0 {
-        Awaited::AtPreds { types }
+        Awaited::AtPreds { kind, types }
     } else {
         Awaited::AtType {
+            kind,
             types,
             own,
             left: left - 1,
@@ -111,6 +131,7 @@ pub fn preds_from(counts: Counts) -> Awaited
     } else {
         Awaited::AtPred {
             counts: Counts {
+                kind: counts.kind,
                 types: counts.types,
                 preds: counts.preds,
                 left: left - 1,
@@ -152,10 +173,11 @@ pub fn roles_from(block: Block, left: usize) -> Awaited
 }
 
 // Before any predicate.
-pub fn counts_of(types: usize, preds: usize) -> Counts
-    ensures { λ r. ⌜ r ≡ countsOf types preds ⌝ }
+pub fn counts_of(kind: usize, types: usize, preds: usize) -> Counts
+    ensures { λ r. ⌜ r ≡ countsOf kind types preds ⌝ }
 {
     Counts {
+        kind,
         types,
         preds,
         left: preds,
@@ -174,6 +196,7 @@ pub fn block_of(counts: Counts, first: usize, line: &[u32]) -> Block
     let groups = number(line, 3);
     Block {
         counts: Counts {
+            kind: counts.kind,
             types: counts.types,
             preds: counts.preds,
             left: counts.left,

@@ -14,14 +14,14 @@ enum Bounds {
     NoRange,
 }
 
-// The range of a field: keys in the order of the file, fields in the order of the line, numbered from 0. `end` has no range,
-// and `_` is a field that the key does not have.
+// The range of a field: keys in the order of the file, a role line without RMIN and RMAX before one with them, fields in the
+// order of the line, numbered from 0. `end` has no range, and `_` is a field that the key does not have.
 fn bounds_of(key: Kind, field: usize) -> Bounds
     ensures { λ r. ⌜ HasBounds key field r ⌝ }
 {
     match key {
         Kind::DiagramLine => match field {
-            0 => Bounds::Between(1, 1), // the number of the first line
+            0 => Bounds::Between(1, 2), // the number of the first line
             _ => Bounds::NoRange,
         },
         Kind::TypesLine => match field {
@@ -52,6 +52,14 @@ fn bounds_of(key: Kind, field: usize) -> Bounds
             0 => Bounds::Between(1, 32), // TYPE
             1 => Bounds::Between(0, 1), // MAND
             2 => Bounds::Between(0, 6), // GROUP
+            _ => Bounds::NoRange,
+        },
+        Kind::LimitedRoleLine => match field {
+            0 => Bounds::Between(1, 32), // TYPE
+            1 => Bounds::Between(0, 1), // MAND
+            2 => Bounds::Between(0, 6), // GROUP, before the limits
+            3 => Bounds::Between(1, 4096), // RMIN
+            4 => Bounds::Between(1, 4096), // RMAX
             _ => Bounds::NoRange,
         },
         Kind::FreqLine => match field {

@@ -28,12 +28,17 @@ fn check_line(place: Awaited, before: &[u32], line: &[u32]) -> Step
 {
     match place {
         Awaited::AtDiagram => diagram_line(line),
-        Awaited::AtTypes => types_line(line),
-        Awaited::AtType { types, own, left } => {
+        Awaited::AtTypes { kind } => types_line(kind, line),
+        Awaited::AtType {
+            kind,
+            types,
+            own,
+            left,
+        } => {
             let ordered = values_in_order(own, before, line);
-            type_line(types, own, left, ordered, line)
+            type_line(kind, types, own, left, ordered, line)
         }
-        Awaited::AtPreds { types } => preds_line(types, line),
+        Awaited::AtPreds { kind, types } => preds_line(kind, types, line),
         Awaited::AtPred { counts } => pred_line(counts, before.len(), line),
         Awaited::AtRole { block, left } => role_line(block, left, line),
         Awaited::AtFreq { block, own, left } => freq_line(block, own, left, before, line),
@@ -62,12 +67,17 @@ fn check_cut_line(place: Awaited, before: &[u32], line: &[u32]) -> Step
 {
     match place {
         Awaited::AtDiagram => diagram_line(line),
-        Awaited::AtTypes => types_line(line),
-        Awaited::AtType { types, own, left } => {
+        Awaited::AtTypes { kind } => types_line(kind, line),
+        Awaited::AtType {
+            kind,
+            types,
+            own,
+            left,
+        } => {
             let ordered = values_in_order(own, before, line);
-            type_line(types, own, left, ordered, line)
+            type_line(kind, types, own, left, ordered, line)
         }
-        Awaited::AtPreds { types } => preds_line(types, line),
+        Awaited::AtPreds { kind, types } => preds_line(kind, types, line),
         Awaited::AtPred { counts } => pred_line(counts, before.len(), line),
         Awaited::AtRole { block, left } => role_line(block, left, line),
         Awaited::AtFreq { block, own, left } => freq_line(block, own, left, before, line),

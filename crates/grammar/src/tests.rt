@@ -1,12 +1,14 @@
 // Single numbers and their tests.
-use lexer::lines::ROLE_FIELDS;
+use crate::places::role_kind;
+use lexer::lines::fields_of;
 ghost use mathlib.Core.Path.{_≡_};
 ghost use mathlib.Core.Bool.{_&&_};
 ghost use Prim.Native.Nat.{_-_, _≤_, _<_};
 ghost use lib.Dec.{leb, ltb, eqb};
 ghost use lib.ListN.{length, getD, drop};
-ghost use Rattle.orm.specs.Form.{typeOf, withinSuper, valuesInOrder, named};
+ghost use Rattle.orm.specs.Form.{typeOf, roleOf, withinSuper, valuesInOrder, named};
 ghost use Rattle.reading.specs.Walk.{typesIn, rolesAt};
+ghost use Rattle.grammar.specs.Awaited.{roleFieldsOf};
 
 // The number at `i`; 0 behind the end.
 fn item(numbers: &[u32], i: usize) -> usize
@@ -92,19 +94,31 @@ pub fn values_in_order(own: usize, before: &[u32], line: &[u32]) -> bool
     within_super(supertypes::index(own as u32), before, line)
 }
 
-// Whether one of the `count` roles whose numbers start at `first` is in the group.
-pub fn is_named(group: usize, numbers: &[u32], first: usize, count: usize) -> bool
+// Whether one of the `count` roles of a diagram of this kind whose numbers start at `first` is in the group.
+pub fn is_named(group: usize, kind: usize, numbers: &[u32], first: usize, count: usize) -> bool
     requires { ⌜ (first ≤ 4294967296) × (count ≤ 4294967296) ⌝ }
-    ensures { λ r. ⌜ r ≡ named group (rolesAt (now (numbers .entry)) first count) ⌝ }
+    ensures { λ r. ⌜ r ≡ named group (rolesAt kind count (drop first (now (numbers .entry)))) ⌝ }
 {
-    let mut i = 0;
+    let width = fields_of(role_kind(kind));
+    let mut left = count;
     let mut at = first;
-    while i < count {
+    while 0 < left {
         if item(numbers, at + 2) == group {
             return true;
         }
-        i += 1;
-        at += ROLE_FIELDS;
+        at += width;
+        left -= 1;
     }
     false
+}
+
+// Whether RMIN is not above RMAX on a role line in a diagram of this kind; without them it is not.
+pub fn limits_in_order(kind: usize, line: &[u32]) -> bool
+    requires { ⌜ length (now line) ≡ roleFieldsOf kind ⌝ }
+    ensures { λ r. ⌜ r ≡ leb (roleOf kind (now (line .entry)) .rmin) (roleOf kind (now (line .entry)) .rmax) ⌝ }
+{
+    if kind == 2 {
+        return at_most(number(line, 3), number(line, 4));
+    }
+    true
 }

@@ -1,19 +1,22 @@
 // The tests of a line, in their order: each test is made, and the first that fails decides.
 use crate::Fault;
 use crate::Verdict;
+use crate::places::role_kind;
 use crate::ranges::in_ranges;
 use crate::tests::at_most;
 use crate::tests::below;
 use crate::tests::equal;
+use crate::tests::limits_in_order;
 use crate::tests::number;
 use lexer::Kind;
 ghost use mathlib.Core.Path.{_≡_};
 ghost use mathlib.Core.List.{[]};
 ghost use Prim.Native.Nat.{_≤_};
 ghost use lib.ListN.{length};
-ghost use Rattle.orm.specs.Diagram.{typeLine, predLine, roleLine, freqLine, endLine};
+ghost use Rattle.orm.specs.Diagram.{typeLine, predLine, freqLine, endLine, roleLineOf};
 ghost use Rattle.orm.specs.Form.{typeOf, roleOf, groupOf, headOf, countOf, predTests, roleTests, endTests};
 ghost use Rattle.lexer.specs.Cuts.{kindOf};
+ghost use Rattle.grammar.specs.Awaited.{roleFieldsOf};
 ghost use Rattle.grammar.specs.Fault.{numberOf, faultOf, unlessOf};
 ghost use Rattle.grammar.specs.Step.{faultIn, typeTestsIf, freqTests};
 
@@ -62,20 +65,19 @@ pub fn pred_verdict(roles: usize, groups: usize, line: &[u32]) -> Verdict
     unless(Fault::OutOfRange, in_ranges(Kind::PredLine, line), totals)
 }
 
-pub fn role_verdict(types: usize, groups: usize, line: &[u32]) -> Verdict
-    requires { ⌜ length (now line) ≡ 3 ⌝ }
-    ensures { λ r. ⌜ faultOf r ≡ faultIn roleLine (now (line .entry)) (roleTests types groups (roleOf (now (line .entry)))) ⌝ }
+// A role line in a diagram of this kind.
+pub fn role_verdict(kind: usize, types: usize, groups: usize, line: &[u32]) -> Verdict
+    requires { ⌜ length (now line) ≡ roleFieldsOf kind ⌝ }
+    ensures { λ r. ⌜ faultOf r ≡ faultIn (roleLineOf kind) (now (line .entry)) (roleTests types groups (roleOf kind (now (line .entry)))) ⌝ }
 {
-    let group = unless(
-        Fault::Unknown,
-        at_most(number(line, 2), groups),
+    let limits = unless(
+        Fault::Disordered,
+        limits_in_order(kind, line),
         Verdict::Fine,
     );
-    unless(
-        Fault::OutOfRange,
-        in_ranges(Kind::RoleLine, line),
-        unless(Fault::Unknown, at_most(number(line, 0), types), group),
-    )
+    let group = unless(Fault::Unknown, at_most(number(line, 2), groups), limits);
+    let player = unless(Fault::Unknown, at_most(number(line, 0), types), group);
+    unless(Fault::OutOfRange, in_ranges(role_kind(kind), line), player)
 }
 
 pub fn freq_verdict(used: bool, line: &[u32]) -> Verdict

@@ -11,7 +11,7 @@ use Rattle.orm.specs.Reader.{Cut, broken, cut}
 use Rattle.orm.specs.Form.{fields, ranges}
 use Rattle.orm.specs.Text.{bytes, key, number, after, numbers, textLine, numeral}
 use Rattle.lexer.specs.declared.Kind.{Kind}
-use Rattle.lexer.specs.declared.Kind.the-variants.{DiagramLine, TypesLine, TypeLine, PredsLine, PredLine, RoleLine, FreqLine, EndLine}
+use Rattle.lexer.specs.declared.Kind.the-variants.{DiagramLine, TypesLine, TypeLine, PredsLine, PredLine, RoleLine, LimitedRoleLine, FreqLine, EndLine}
 use Rattle.lexer.specs.declared.Numeral.{Numeral}
 use Rattle.lexer.specs.declared.Numeral.the-variants.{Malformed, Value}
 use Rattle.lexer.specs.declared.Found.{Found}
@@ -96,6 +96,7 @@ fields-is TypeLine = refl
 fields-is PredsLine = refl
 fields-is PredLine = refl
 fields-is RoleLine = refl
+fields-is LimitedRoleLine = refl
 fields-is FreqLine = refl
 fields-is EndLine = refl
 

@@ -9,7 +9,7 @@ use lib.Seq.{drop-cons}
 use borrow.Author.Tests.{eq-eqb, ne-eqb}
 use Rattle.orm.specs.Text.{bytes, key, after, separator}
 use Rattle.lexer.specs.declared.Kind.{Kind}
-use Rattle.lexer.specs.declared.Kind.the-variants.{DiagramLine, TypesLine, TypeLine, PredsLine, PredLine, RoleLine, FreqLine, EndLine}
+use Rattle.lexer.specs.declared.Kind.the-variants.{DiagramLine, TypesLine, TypeLine, PredsLine, PredLine, RoleLine, LimitedRoleLine, FreqLine, EndLine}
 use Rattle.lexer.specs.declared.Found.{Found}
 use Rattle.lexer.specs.declared.Found.the-variants.{To, Nothing}
 use Rattle.lexer.specs.Cuts.{kindOf, foundAt, separatorKey, keyOf}
@@ -67,6 +67,7 @@ key-is TypeLine = refl
 key-is PredsLine = refl
 key-is PredLine = refl
 key-is RoleLine = refl
+key-is LimitedRoleLine = refl
 key-is FreqLine = refl
 key-is EndLine = refl
 

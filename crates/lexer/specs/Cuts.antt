@@ -5,10 +5,10 @@ use mathlib.Core.List.{List, [], _∷_, _++_}
 use lib.ListN.{length, drop}
 use Rattle.orm.specs.Diagram as orm
 use Rattle.orm.specs.Reader.{Cut, broken, cut}
-use Rattle.orm.specs.Form.{fields, roleFields}
+use Rattle.orm.specs.Form.{fields, roleFields, limitedRoleFields}
 use Rattle.orm.specs.Text as text
 use Rattle.lexer.specs.declared.Kind.{Kind}
-use Rattle.lexer.specs.declared.Kind.the-variants.{DiagramLine, TypesLine, TypeLine, PredsLine, PredLine, RoleLine, FreqLine, EndLine}
+use Rattle.lexer.specs.declared.Kind.the-variants.{DiagramLine, TypesLine, TypeLine, PredsLine, PredLine, RoleLine, LimitedRoleLine, FreqLine, EndLine}
 use Rattle.lexer.specs.declared.Numeral.{Numeral}
 use Rattle.lexer.specs.declared.Numeral.the-variants.{Malformed, Value}
 use Rattle.lexer.specs.declared.Found.{Found}
@@ -21,6 +21,7 @@ kindOf TypeLine = orm.typeLine
 kindOf PredsLine = orm.predsLine
 kindOf PredLine = orm.predLine
 kindOf RoleLine = orm.roleLine
+kindOf LimitedRoleLine = orm.limitedRoleLine
 kindOf FreqLine = orm.freqLine
 kindOf EndLine = orm.endLine
 
@@ -52,6 +53,7 @@ keyOf TypeLine = 116 ∷ 121 ∷ 112 ∷ 101 ∷ 61 ∷ []
 keyOf PredsLine = 112 ∷ 114 ∷ 101 ∷ 100 ∷ 115 ∷ 61 ∷ []
 keyOf PredLine = 112 ∷ 114 ∷ 101 ∷ 100 ∷ 61 ∷ []
 keyOf RoleLine = 114 ∷ 111 ∷ 108 ∷ 101 ∷ 61 ∷ []
+keyOf LimitedRoleLine = 114 ∷ 111 ∷ 108 ∷ 101 ∷ 61 ∷ []
 keyOf FreqLine = 102 ∷ 114 ∷ 101 ∷ 113 ∷ 61 ∷ []
 keyOf EndLine = 101 ∷ 110 ∷ 100 ∷ 61 ∷ []
 
@@ -62,6 +64,7 @@ fieldsOf TypeLine = 6
 fieldsOf PredsLine = 1
 fieldsOf PredLine = 4
 fieldsOf RoleLine = roleFields
+fieldsOf LimitedRoleLine = limitedRoleFields
 fieldsOf FreqLine = 2
 fieldsOf EndLine = 1
 

@@ -47,6 +47,7 @@ pub fn behind_key(kind: Kind, text: &[u8], at: usize) -> Found
         Kind::PredsLine => behind(b"preds=", text, at),
         Kind::PredLine => behind(b"pred=", text, at),
         Kind::RoleLine => behind(b"role=", text, at),
+        Kind::LimitedRoleLine => behind(b"role=", text, at),
         Kind::FreqLine => behind(b"freq=", text, at),
         Kind::EndLine => behind(b"end=", text, at),
     }

@@ -3,7 +3,7 @@ mod keys;
 pub mod lines;
 pub mod numbers;
 
-// The key of a line.
+// The kind of a line: its key, and of a role line whether it has RMIN and RMAX.
 pub enum Kind {
     DiagramLine,
     TypesLine,
@@ -11,6 +11,7 @@ pub enum Kind {
     PredsLine,
     PredLine,
     RoleLine,
+    LimitedRoleLine,
     FreqLine,
     EndLine,
 }

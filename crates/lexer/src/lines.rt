@@ -12,8 +12,10 @@ ghost use lib.Seq.{sets};
 ghost use Rattle.orm.specs.Text.{numbers, textLine};
 ghost use Rattle.lexer.specs.Cuts.{cutAt, kindOf, fieldsOf, soundNumbers, lineNumbers};
 
-// The number of values on a role line.
+// The number of values on a role line, without RMIN and RMAX and with them.
 pub const ROLE_FIELDS: usize = 3;
+
+const LIMITED_ROLE_FIELDS: usize = 5;
 
 // The `n` numbers of a line, with commas between, and the line feed; those before a fault are written all the same.
 fn numbers_at(n: usize, text: &[u8], start: usize, out: &mut [u32]) -> Found
@@ -46,6 +48,7 @@ pub fn fields_of(kind: Kind) -> usize
         Kind::TypeLine => 6,
         Kind::PredLine => 4,
         Kind::RoleLine => ROLE_FIELDS,
+        Kind::LimitedRoleLine => LIMITED_ROLE_FIELDS,
         Kind::FreqLine => 2,
         Kind::DiagramLine => 1,
         Kind::TypesLine => 1,

@@ -99,9 +99,9 @@ module _ {form : LineKind → List ℕ → List ℕ} (next : LineKind → List �
     where
       go : (p : Awaited) → isGoing p ≡ false → from next p acc n s ≡ nothingLeft next (totalsOf (countsAt p)) acc n s
       go AtDiagram g = cc
-      go AtTypes g = cc
-      go (AtType t o l) g = cc
-      go (AtPreds t) g = cc
+      go (AtTypes k) g = cc
+      go (AtType k t o l) g = cc
+      go (AtPreds k t) g = cc
       go (AtPred c) g = cc
       go (AtRole b l) g = cc
       go (AtFreq b o l) g = cc

@@ -6,7 +6,7 @@ use native.Mathlib.Omega.{arith}
 use lib.ListN.{getD}
 use Rattle.counting.specs.Terms.{_∈_, Each}
 use Rattle.counting.specs.Laws.Members.{each-nil, each-cons, in-flatten}
-use Rattle.orm.specs.Diagram.{LineKind, diagramLine, typesLine, typeLine, predsLine, predLine, roleLine, freqLine, endLine}
+use Rattle.orm.specs.Diagram.{LineKind, diagramLine, typesLine, typeLine, predsLine, predLine, roleLine, limitedRoleLine, freqLine, endLine}
 use Rattle.orm.specs.Form.{Range, _to_, unlimited, ranges}
 use Rattle.orm.specs.Cases.Ranges.{Field, field, fieldsFrom, rangedFields, ranged-fields}
 use Rattle.lexer.specs.Cuts.{kindOf}
@@ -52,8 +52,9 @@ listed typeLine m = in-flatten (there (there (here refl))) m
 listed predsLine m = in-flatten (there (there (there (here refl)))) m
 listed predLine m = in-flatten (there (there (there (there (here refl))))) m
 listed roleLine m = in-flatten (there (there (there (there (there (here refl)))))) m
-listed freqLine m = in-flatten (there (there (there (there (there (there (here refl))))))) m
-listed endLine m = in-flatten (there (there (there (there (there (there (there (here refl)))))))) m
+listed limitedRoleLine m = in-flatten (there (there (there (there (there (there (here refl))))))) m
+listed freqLine m = in-flatten (there (there (there (there (there (there (there (here refl)))))))) m
+listed endLine m = in-flatten (there (there (there (there (there (there (there (there (here refl))))))))) m
 
 -- ---- the statement
 
@@ -62,7 +63,7 @@ unfolding ranges
 ranges-listed = record {
   in-order = ranged-fields;
   gives =
-      and diagramLine 0 1 1 refl
+      and diagramLine 0 1 2 refl
       (and typesLine 0 1 32 refl
       (and typeLine 0 1 4096 refl
       (and typeLine 1 1 4096 refl
@@ -78,8 +79,13 @@ ranges-listed = record {
       (and roleLine 0 1 32 refl
       (and roleLine 1 0 1 refl
       (and roleLine 2 0 6 refl
+      (and limitedRoleLine 0 1 32 refl
+      (and limitedRoleLine 1 0 1 refl
+      (and limitedRoleLine 2 0 6 refl
+      (and limitedRoleLine 3 1 4096 refl
+      (and limitedRoleLine 4 1 4096 refl
       (and freqLine 0 1 4096 refl
-      (and freqLine 1 1 4096 refl (each-nil Gives))))))))))))))))));
+      (and freqLine 1 1 4096 refl (each-nil Gives)))))))))))))))))))))));
   no-other = λ key number low high h.
       let z : 0 + number ≡ number = omega arith in
       rw z at (rw ranged-fields at (listed (kindOf key) (from-range (kindOf key) 0 number (ranges (kindOf key)) (sym h))));

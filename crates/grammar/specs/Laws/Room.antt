@@ -2,32 +2,49 @@
 use Prim.Native.Nat.{ℕ, zero, suc, _+_, _*_, _≤_}
 use native.Mathlib.Omega.{arith}
 use mathlib.Core.Path.{_≡_, refl}
-use mathlib.Core.Bool.{true}
+use mathlib.Core.Bool.{Bool, true, false}
 use mathlib.Core.Option.{none}
 use mathlib.Core.List.{List, [], _∷_}
 use borrow.Author.Tests.{leb-true}
 use lib.ListN.{length, getD}
-use Rattle.orm.specs.Diagram.{typesLine, predsLine, predLine}
-use Rattle.orm.specs.Form.{_to_, ranges, fields, mostRoles, mostGroups, headOf, predTests}
+use Rattle.orm.specs.Diagram.{typesLine, predsLine, predLine, limitsRoles, roleLineOf}
+use Rattle.orm.specs.Form.{_to_, ranges, fields, roleFields, limitedRoleFields, mostRoles, mostGroups, headOf, predTests}
 use Rattle.orm.specs.Meaning.{Between}
 use Rattle.reading.specs.Lines.{InRanges, tested-decides}
+use Rattle.reading.specs.Spelling.{roleLineBy}
 use Rattle.reading.specs.WideTable.{roleWidth, mostNumbers}
 use Rattle.grammar.specs.declared.Counts.{Counts}
 use Rattle.grammar.specs.declared.Block.{Block}
 use Rattle.grammar.specs.declared.Awaited.{Awaited}
 use Rattle.grammar.specs.declared.Awaited.the-variants.{AtDiagram, AtTypes, AtType, AtPreds, AtPred, AtRole, AtFreq, AtEnd, Over}
-use Rattle.grammar.specs.Awaited.{typesFrom, predsLeft, groupsFrom, rolesFrom, blockOf, countsOf, kindAt, isGoing, fieldsAt}
+use Rattle.grammar.specs.Awaited.{roleFieldsOf, typesFrom, predsLeft, groupsFrom, rolesFrom, blockOf, countsOf, kindAt, isGoing, fieldsAt}
 use Rattle.grammar.specs.Step.{faultIn, testsAt, nextAt}
 use Rattle.grammar.specs.Room.{Within, Own, RoomAt, Room}
+
+-- of a role line
+pub role-fields : (kind : ℕ) → fields (roleLineOf kind) ≡ roleFieldsOf kind
+unfolding fields ranges roleLineOf
+role-fields kind = go (limitsRoles kind)
+  where
+    go : (b : Bool) → length (ranges (roleLineBy b)) ≡ elim b [ true ↦ limitedRoleFields | false ↦ roleFields ]
+    go true = unfold ranges in refl
+    go false = unfold ranges in refl
+
+pub role-few : (kind : ℕ) → Between 3 (roleFieldsOf kind) 5
+role-few kind = go (limitsRoles kind)
+  where
+    go : (b : Bool) → Between 3 (elim b [ true ↦ limitedRoleFields | false ↦ roleFields ]) 5
+    go true = (omega arith, omega arith)
+    go false = (omega arith, omega arith)
 
 pub fields-at : (p : Awaited) → fields (kindAt p) ≡ fieldsAt p
 unfolding fields ranges
 fields-at AtDiagram = refl
-fields-at AtTypes = refl
-fields-at (AtType t o l) = refl
-fields-at (AtPreds t) = refl
+fields-at (AtTypes k) = refl
+fields-at (AtType k t o l) = refl
+fields-at (AtPreds k t) = refl
 fields-at (AtPred c) = refl
-fields-at (AtRole b l) = refl
+fields-at (AtRole b l) = role-fields (b .counts .kind)
 fields-at (AtFreq b o l) = refl
 fields-at (AtEnd c) = refl
 fields-at (Over c) = refl
@@ -35,22 +52,22 @@ fields-at (Over c) = refl
 -- There is room for a line
 pub line-room : (p : Awaited) (end : ℕ) → isGoing p ≡ true → RoomAt p end → end + fieldsAt p ≤ mostNumbers
 line-room AtDiagram end g k = omega arith
-line-room AtTypes end g k = omega arith
-line-room (AtType t o l) end g k = omega arith
-line-room (AtPreds t) end g k = omega arith
+line-room (AtTypes kind) end g k = omega arith
+line-room (AtType kind t o l) end g k = omega arith
+line-room (AtPreds kind t) end g k = omega arith
 line-room (AtPred c) end g k = omega (arith, k .numbers, k .roles, k .groups)
-line-room (AtRole b l) end g k = omega (arith, k .0 .numbers, k .0 .roles, k .0 .groups)
+line-room (AtRole b l) end g k = omega (arith, k .0 .numbers, k .0 .roles, k .0 .groups, role-few (b .counts .kind) .1)
 line-room (AtFreq b o l) end g k = omega (arith, k .0 .numbers, k .0 .roles, k .0 .groups)
 line-room (AtEnd c) end g k = omega arith
 line-room (Over c) end g k = let z : _≡_ {A = ℕ} 0 1 = cc in absurd (omega arith)
 
 pub some-fields : (p : Awaited) → 1 ≤ fieldsAt p
 some-fields AtDiagram = omega arith
-some-fields AtTypes = omega arith
-some-fields (AtType t o l) = omega arith
-some-fields (AtPreds t) = omega arith
+some-fields (AtTypes kind) = omega arith
+some-fields (AtType kind t o l) = omega arith
+some-fields (AtPreds kind t) = omega arith
 some-fields (AtPred c) = omega arith
-some-fields (AtRole b l) = omega arith
+some-fields (AtRole b l) = omega (arith, role-few (b .counts .kind) .0)
 some-fields (AtFreq b o l) = omega arith
 some-fields (AtEnd c) = omega arith
 some-fields (Over c) = omega arith
@@ -60,9 +77,9 @@ room-most p end w = go p (w .known)
   where
     go : (p : Awaited) → RoomAt p end → end ≤ mostNumbers
     go AtDiagram k = omega arith
-    go AtTypes k = omega arith
-    go (AtType t o l) k = omega arith
-    go (AtPreds t) k = omega arith
+    go (AtTypes kind) k = omega arith
+    go (AtType kind t o l) k = omega arith
+    go (AtPreds kind t) k = omega arith
     go (AtPred c) k = omega (arith, k .numbers, k .roles, k .groups)
     go (AtRole b l) k = omega (arith, k .0 .numbers, k .0 .roles, k .0 .groups)
     go (AtFreq b o l) k = omega (arith, k .0 .numbers, k .0 .roles, k .0 .groups)
@@ -85,9 +102,9 @@ pred-within (a ∷ b ∷ c ∷ d ∷ v) l h = (h .1 .1 .0 .1, h .1 .1 .1 .0 .1)
 
 -- ---- where a line leads
 
-types-known : (t own left done : ℕ) → done + 6 * left ≤ 194 → own + left ≤ 33 → RoomAt (typesFrom t own left) done
-types-known t own zero done h k = omega arith
-types-known t own (suc left) done h k = (omega arith, omega arith)
+types-known : (kind t own left done : ℕ) → done + 6 * left ≤ 194 → own + left ≤ 33 → RoomAt (typesFrom kind t own left) done
+types-known kind t own zero done h k = omega arith
+types-known kind t own (suc left) done h k = (omega arith, omega arith)
 
 preds-known : (c : Counts) (left done : ℕ) → c .left ≡ left → Within c done 0 → RoomAt (predsLeft c left) done
 preds-known c zero done e w = omega (arith, w .numbers, w .roles, w .groups)
@@ -110,13 +127,13 @@ pub next-known : (p : Awaited) (s v : List ℕ) → isGoing p ≡ true → RoomA
     → faultIn (kindAt p) v (testsAt p s v) ≡ none → RoomAt (nextAt p s v) (length s + length v)
 unfolding ranges predTests mostRoles mostGroups
 next-known AtDiagram s v g k l f = omega arith
-next-known AtTypes s v g k l f =
+next-known (AtTypes kind) s v g k l f =
     let h = one-within 1 32 v l (tested-decides typesLine v [] .0 f .0) in
-    types-known (getD v 0 0) 1 (getD v 0 0) (length s + length v) (omega arith) (omega arith)
-next-known (AtType t own left) s v g k l f = types-known t (own + 1) left (length s + length v) (omega arith) (omega arith)
-next-known (AtPreds t) s v g k l f =
+    types-known kind (getD v 0 0) 1 (getD v 0 0) (length s + length v) (omega arith) (omega arith)
+next-known (AtType kind t own left) s v g k l f = types-known kind t (own + 1) left (length s + length v) (omega arith) (omega arith)
+next-known (AtPreds kind t) s v g k l f =
     let h = one-within 1 32 v l (tested-decides predsLine v [] .0 f .0) in
-    preds-known (countsOf t (getD v 0 0)) (getD v 0 0) (length s + length v) refl
+    preds-known (countsOf kind t (getD v 0 0)) (getD v 0 0) (length s + length v) refl
     (record { numbers = omega arith; roles = omega arith; groups = omega arith })
 next-known (AtPred c) s v g k l f =
     let passed = tested-decides predLine v (predTests (c .roles) (c .groups) (headOf v)) .0 f in
@@ -128,7 +145,7 @@ next-known (AtPred c) s v g k l f =
     (record { first = omega (arith, k .numbers, k .roles, k .groups); roles = few .0; groups = few .1 })
 next-known (AtRole b left) s v g k l f =
     roles-known b left (length s + length v)
-    (record { numbers = omega (arith, k .0 .numbers); roles = k .0 .roles; groups = k .0 .groups }) (k .1)
+    (record { numbers = omega (arith, k .0 .numbers, role-few (b .counts .kind) .1); roles = k .0 .roles; groups = k .0 .groups }) (k .1)
 next-known (AtFreq b own left) s v g k l f =
     groups-known b (own + 1) left (length s + length v)
     (record { numbers = omega (arith, k .0 .numbers); roles = k .0 .roles; groups = k .0 .groups }) (k .1) (omega (arith, k .2))

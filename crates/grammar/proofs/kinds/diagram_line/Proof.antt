@@ -11,4 +11,5 @@ diagram-line-spec =
     (tie.spec
     (λ c κs. search needs)
     (λ c κs. search needs)
+    (λ c κs. search needs)
     (λ c. search (needs, diagram-leads)))

@@ -2,7 +2,7 @@
 -- Assumes nothing.
 use native.Mathlib.Omega.{arith}
 use Rattle.orm.specs.Form.{ranges}
-use Rattle.lexer.specs.declared.Kind.the-variants.{DiagramLine, TypesLine, TypeLine, PredsLine, PredLine, RoleLine, FreqLine}
+use Rattle.lexer.specs.declared.Kind.the-variants.{DiagramLine, TypesLine, TypeLine, PredsLine, PredLine, RoleLine, LimitedRoleLine, FreqLine}
 use Rattle.grammar.proofs.Bounds.{no-field, end-field}
 use borrow.Author.Needs.{needs}
 use Rattle.grammar.proofs.ranges.bounds_of.Statement.{statement}
@@ -13,6 +13,7 @@ unfolding ranges
 bounds-of-spec =
     tie.close
     (tie.spec
+    (λ c. search needs)
     (λ c. search needs)
     (λ c. search needs)
     (λ c. search needs)
@@ -45,5 +46,11 @@ bounds-of-spec =
     (λ c. no-field RoleLine _ (c .before .enum-told6 .given .1) (omega arith))
     (λ c. search needs)
     (λ c. search needs)
-    (λ c. no-field FreqLine _ (c .before .enum-told7 .given .1) (omega arith))
+    (λ c. search needs)
+    (λ c. search needs)
+    (λ c. search needs)
+    (λ c. no-field LimitedRoleLine _ (c .before .enum-told7 .given .1) (omega arith))
+    (λ c. search needs)
+    (λ c. search needs)
+    (λ c. no-field FreqLine _ (c .before .enum-told8 .given .1) (omega arith))
     (λ c. search (needs, end-field)))

@@ -1,19 +1,22 @@
 -- `grammar::tests::is_named` meets its contract. The roles from the one at hand on decide as all do.
 -- Assumes nothing.
-use Prim.Native.Nat.{_+_, _*_, _≤_, _-_}
+use Prim.Native.Nat.{_+_, _*_, _≤_}
 use mathlib.Core.Path.{_≡_}
-use native.Mathlib.Omega.{arith}
-use Rattle.orm.specs.Form.{roleFields}
-use Rattle.grammar.proofs.Named.{Named, named-start, named-end, named-here, named-more}
+use lib.ListN.{drop}
+use Rattle.orm.specs.Form.{named}
+use Rattle.reading.specs.Walk.{rolesAt}
+use Rattle.grammar.proofs.Named.{named-end, named-here, named-more}
 use borrow.Author.Needs.{needs}
 use Rattle.grammar.proofs.tests.is_named.Statement.{statement}
 use Rattle.grammar.proofs.tests.is_named.Tie as tie
 
 abbrev Inv-loop : tie.InvT-loop
-Inv-loop group numbers first count i₀ at₀ i at = (i ≤ count) × (at ≡ first + roleFields * i) × Named group numbers first count i at
+Inv-loop group kind numbers first count width left₀ at₀ left at =
+    (at + 6 * left ≤ first + 6 * count)
+    × (named group (rolesAt kind left (drop at numbers)) ≡ named group (rolesAt kind count (drop first numbers)))
 
 abbrev μ-loop : tie.MeasureT-loop
-μ-loop group numbers first count i₀ at₀ i at = count - i
+μ-loop group kind numbers first count width left₀ at₀ left at = left
 
 pub is-named-spec : {M : Type 1} → statement M
 is-named-spec =
@@ -21,16 +24,14 @@ is-named-spec =
     (tie.spec
     Inv-loop
     μ-loop
-    (λ c. search (needs, named-start))
+    (λ c κs. search needs)
+    (λ c κs. search needs)
+    (λ c. search needs)
     (λ c. search needs)
     (λ c κs. search needs)
     (λ c. search (needs, named-here))
     (λ c. search needs)
     (λ c. search needs)
     (λ c. search needs)
-    (λ c. (
-      omega arith,
-      omega arith,
-      named-more _ _ _ _ _ _ (c .before .before .before .loop .inv .2) (omega arith) (c .before .item .ensures .0) (c .if1 .left),
-    ))
+    (λ c. search (needs, named-more))
     (λ c. search (needs, named-end)))

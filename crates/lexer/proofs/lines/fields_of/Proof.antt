@@ -17,6 +17,8 @@ fields-of-spec =
     (λ c. search needs)
     (λ c. search needs)
     (λ c. search needs)
+    (λ c. search needs)
+    (λ c. search (needs, fields-arm))
     (λ c. search (needs, fields-arm))
     (λ c. search (needs, fields-arm))
     (λ c. search (needs, fields-arm))

@@ -7,7 +7,7 @@ use mathlib.Core.List.{List, [], _∷_, _++_, map, append-nil, map-append}
 use lib.Dec.{eqb}
 use lib.ListN.{length, getD, drop, length-append}
 use Rattle.orm.specs.Diagram.{isGrouped, isMandatory}
-use Rattle.orm.specs.Form.{roleOf, groupOf}
+use Rattle.orm.specs.Form.{groupOf}
 use Rattle.counting.specs.Lists.{upFrom}
 use Rattle.fixpoint.specs.Limits.{Limit, product}
 use Rattle.orm.specs.Sets.{Part, groupSet, groupRoles, groupPart, rolePart, parts, atMost, onlyIf, limitsOfRole, limitsOfGroup, limitOfRows}
@@ -17,6 +17,7 @@ use Rattle.lowering.specs.Laws.Decoding.{encode-append}
 use Rattle.buffer.specs.Written.{Wrote}
 use Rattle.buffer.specs.Laws.{wrote-then, wrote-as, wrote-none}
 use Rattle.table.specs.Laws.Walks.{group-count}
+use Rattle.table.specs.Positions.{wideRole}
 use Rattle.table.specs.Cursors.{placedAt}
 use Rattle.table.specs.declared.Cursor.{Cursor}
 use Rattle.limits.specs.Single.{limitOfGroup}
@@ -57,7 +58,7 @@ module _ (t : List ℕ) (x : Cursor) where
       → set ≡ x .groups + (group - 1) → mand ≡ getD (drop q t) 1 0 → mandatory ≡ eqb mand 1 → Wrote o at (encode (atMost p own ∷ [])) o₁ a
       → Wrote o₁ a (encode (atMost p (x .own) ∷ [])) o₂ b → Wrote o₂ b (encode (onlyIf grouped (atMost p set))) o₃ c
       → Wrote o₃ c (encode (onlyIf mandatory (atMost own p))) o₄ e
-      → Wrote o at (encode (limitsOfRole (placedAt t x) p (roleOf (drop q t)))) o₄ e
+      → Wrote o at (encode (limitsOfRole (placedAt t x) p (wideRole (drop q t)))) o₄ e
   unfolding limitsOfRole isGrouped isMandatory groupSet placedAt
   role-is p q {type} {mand} {group} {set} {own} {grouped} {mandatory} et ei eg eb es em ec w₁ w₂ w₃ w₄ =
       wrote-as (wrote-then w₁ (wrote-then w₂ (wrote-then w₃ w₄)))

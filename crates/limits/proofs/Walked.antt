@@ -8,7 +8,7 @@ use mathlib.Core.List.{List, [], _∷_, _++_, flatMap, flatten, append-nil}
 use lib.Dec.{ltb, eqb}
 use lib.ListN.{length, getD, drop}
 use Rattle.orm.specs.Diagram.{Diagram, isRoot, plays, mustPlay, index, allRoles}
-use Rattle.orm.specs.Form.{typeOf, roleOf, groupOf}
+use Rattle.orm.specs.Form.{typeOf, groupOf}
 use Rattle.counting.specs.Lists.{mapFrom}
 use Rattle.fixpoint.specs.Limits.{Limit}
 use Rattle.orm.specs.Sets.{Placed, firstRole, placed, rolesOfType, atMost, onlyIf, limitsOfRole, limitsOfGroup, limitOfRows}
@@ -16,7 +16,7 @@ use Rattle.orm.specs.Sets.{limitsOfPred, limitsOfType, limits}
 use Rattle.lowering.specs.Encoding.{encodeExpr, encode}
 use Rattle.buffer.specs.Written.{Wrote, Writing, Splits}
 use Rattle.buffer.specs.Laws.{wrote-then, wrote-as, writing-start}
-use Rattle.table.specs.Positions.{each, typesIn, roleWidth, rolesIn, groupsIn, rolesStart, groupsStart, typeCount, predCount, diagramOf}
+use Rattle.table.specs.Positions.{each, typesIn, roleWidth, wideRole, rolesIn, groupsIn, rolesStart, groupsStart, typeCount, predCount, diagramOf}
 use Rattle.table.specs.Laws.Walks.{each-more, each-none, roles-here, groups-here}
 use Rattle.table.specs.Cursors.{placedAt, placedLeft, firstCursor, nextCursor}
 use Rattle.table.specs.Laws.Cursors.{placed-start, placed-more, placed-none}
@@ -49,9 +49,9 @@ module _ {A : Type 0} (make : List ℕ → A) (k : ℕ) (g : ℕ → A → List 
 
 module _ (t : List ℕ) (x : Placed) (q n i : ℕ) where
   pub roles-more : 0 < n
-      → Splits (items (limitsOfRole x) i (rolesIn n (drop q t))) (encode (limitsOfRole x i (roleOf (drop q t))))
+      → Splits (items (limitsOfRole x) i (rolesIn n (drop q t))) (encode (limitsOfRole x i (wideRole (drop q t))))
       (items (limitsOfRole x) (i + 1) (rolesIn (n - 1) (drop (q + roleWidth) t)))
-  roles-more = items-more roleOf roleWidth (limitsOfRole x) t q n i
+  roles-more = items-more wideRole roleWidth (limitsOfRole x) t q n i
 
   pub groups-more : 0 < n
       → Splits (items (limitsOfGroup x) i (groupsIn n (drop q t))) (encode (limitsOfGroup x i (groupOf (drop q t))))

@@ -3,6 +3,7 @@
 // says.
 mod preds;
 mod ranges;
+mod roles;
 mod single;
 mod types;
 
@@ -11,14 +12,17 @@ use crate::ranges::pred_lowers;
 use crate::ranges::pred_uppers;
 use crate::ranges::type_lowers;
 use crate::ranges::type_uppers;
+use crate::roles::role_lowers;
+use crate::roles::role_uppers;
 use crate::types::push_types;
-ghost use Rattle.orm.specs.Sets.{lower, upper};
-ghost use Rattle.orm.specs.Sets.{limits};
+ghost use mathlib.Core.Path.{_≡_};
+ghost use lib.ListN.{length};
+ghost use Rattle.orm.specs.Diagram.{allRoles, allGroups};
+ghost use Rattle.orm.specs.Sets.{lower, upper, limits};
 ghost use Rattle.selection.specs.Selected.{Types};
 ghost use Rattle.lowering.specs.Encoding.{encode};
 ghost use Rattle.buffer.specs.Written.{Wrote};
 ghost use Rattle.table.specs.Positions.{diagramOf, Walkable};
-ghost use Rattle.limits.specs.Single.{Counted};
 ghost use Rattle.limits.specs.Prepared.{ValidTotals, Roomy, Prepared};
 
 // How many sets a diagram has, and how many numbers its limits take.
@@ -27,37 +31,38 @@ pub struct Extent {
     pub limits: usize,
 }
 
-// The lower bounds of all sets of a table with so many roles and groups.
-fn write_lower(t: &[u32], roles: u32, groups: u32, out: &mut [u32]) -> usize
+// The lower bounds of all sets of a table with so many groups.
+fn write_lower(t: &[u32], groups: u32, out: &mut [u32]) -> usize
     requires { ⌜ Walkable (now t) ⌝ }
-    requires { ⌜ Counted (now t) roles groups ⌝ }
+    requires { ⌜ groups ≡ length (allGroups (diagramOf (now t))) ⌝ }
     ensures { λ r. ⌜ Wrote (now (out .entry)) 0 (lower (diagramOf (now (t .entry)))) (now (out .exit)) r ⌝ }
 {
     let a = type_lowers(t, out, 0);
     let b = pred_lowers(t, out, a);
-    let c = buffer::fill(out, b, roles, 1);
+    let c = role_lowers(t, out, b);
     buffer::fill(out, c, groups, 1)
 }
 
 // The upper bounds that the rounds start from.
-fn write_upper(t: &[u32], roles: u32, groups: u32, out: &mut [u32]) -> usize
+fn write_upper(t: &[u32], groups: u32, out: &mut [u32]) -> usize
     requires { ⌜ Walkable (now t) ⌝ }
-    requires { ⌜ Counted (now t) roles groups ⌝ }
+    requires { ⌜ groups ≡ length (allGroups (diagramOf (now t))) ⌝ }
     ensures { λ r. ⌜ Wrote (now (out .entry)) 0 (upper (diagramOf (now (t .entry)))) (now (out .exit)) r ⌝ }
 {
     let a = type_uppers(t, out, 0);
     let b = pred_uppers(t, out, a);
-    let c = buffer::fill(out, b, roles, 4096);
+    let c = role_uppers(t, out, b);
     buffer::fill(out, c, groups, 4096)
 }
 
-// The limits of all sets, with the types of all roles at hand.
-fn write_limits(t: &[u32], types: &[u32], out: &mut [u32]) -> usize
+// The limits of all sets of a table with so many roles, with the types of all roles at hand.
+fn write_limits(t: &[u32], roles: u32, types: &[u32], out: &mut [u32]) -> usize
     requires { ⌜ Walkable (now t) ⌝ }
+    requires { ⌜ roles ≡ length (allRoles (diagramOf (now t))) ⌝ }
     requires { ⌜ Types (now t) (now types) ⌝ }
     ensures { λ r. ⌜ Wrote (now (out .entry)) 0 (encode (limits (diagramOf (now (t .entry))))) (now (out .exit)) r ⌝ }
 {
-    let a = push_preds(t, selection::role_count(t, types), out, 0);
+    let a = push_preds(t, roles, out, 0);
     push_types(t, types, table::first_role(t), out, a)
 }
 
@@ -79,8 +84,8 @@ pub fn prepare(
         (now (types .exit)) (now (limits .exit)) (now (lower .exit)) (now (upper .exit)) ⌝ }
 {
     let n = selection::write_types(t, types);
-    let m = write_limits(t, &types[..n], limits);
-    write_lower(t, roles, groups, lower);
-    let sets = write_upper(t, roles, groups, upper);
+    let m = write_limits(t, roles, &types[..n], limits);
+    write_lower(t, groups, lower);
+    let sets = write_upper(t, groups, upper);
     Extent { sets, limits: m }
 }

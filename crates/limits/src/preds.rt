@@ -9,12 +9,12 @@ ghost use Prim.Native.Nat.{_+_, _-_, _≤_};
 ghost use lib.ListN.{length, getD, drop};
 ghost use Rattle.counting.specs.Lists.{mapFrom};
 ghost use Rattle.orm.specs.Diagram.{allRoles};
-ghost use Rattle.orm.specs.Form.{roleOf, groupOf};
+ghost use Rattle.orm.specs.Form.{groupOf};
 ghost use Rattle.orm.specs.Sets.{limitsOfRole, limitsOfGroup};
 ghost use Rattle.orm.specs.Sets.{limitOfRows, limitsOfPred, placed};
 ghost use Rattle.lowering.specs.Encoding.{encode};
 ghost use Rattle.buffer.specs.Written.{Wrote};
-ghost use Rattle.table.specs.Positions.{roleWidth, diagramOf, Walkable};
+ghost use Rattle.table.specs.Positions.{roleWidth, wideRole, diagramOf, Walkable};
 ghost use Rattle.table.specs.Cursors.{placedAt, Here};
 ghost use Rattle.limits.specs.Single.{limitOfGroup};
 
@@ -33,7 +33,7 @@ fn push_role(t: &[u32], x: table::Cursor, p: u32, q: usize, out: &mut [u32], at:
     requires { ⌜ Here (now t) x ⌝ }
     requires { ⌜ q + roleWidth ≤ length (now t) ⌝ }
     ensures { λ r.
-        ⌜ Wrote (now (out .entry)) at (encode (limitsOfRole (placedAt (now (t .entry)) x) p (roleOf (drop q (now (t .entry))))))
+        ⌜ Wrote (now (out .entry)) at (encode (limitsOfRole (placedAt (now (t .entry)) x) p (wideRole (drop q (now (t .entry))))))
         (now (out .exit)) r ⌝ }
 {
     let a = selection::less_one(table::number(t, q, 0));

@@ -6,13 +6,12 @@ use mathlib.Core.List.{List, [], _∷_, flatten}
 use lib.ListN.{getD, drop}
 use Rattle.counting.specs.Lists.{mapFrom}
 use Rattle.orm.specs.Diagram.{Role, Diagram}
-use Rattle.orm.specs.Form.{roleOf}
 use Rattle.orm.specs.Sets.{firstRole}
 use Rattle.orm.specs.Supertypes.{firstValue}
 use Rattle.orm.specs.Populate.{takenBefore}
 use Rattle.buffer.specs.Written.{Wrote, Writing, Splits}
 use Rattle.buffer.specs.Laws.{wrote-then, wrote-as, writing-all}
-use Rattle.table.specs.Positions.{roleWidth, rolesIn, rolesStart}
+use Rattle.table.specs.Positions.{roleWidth, wideRole, rolesIn, rolesStart}
 use Rattle.table.specs.Laws.Walks.{role-more, role-none, roles-here}
 use Rattle.table.specs.Cursors.{placedAt}
 use Rattle.table.specs.declared.Cursor.{Cursor}
@@ -32,7 +31,7 @@ module _ (d : Diagram) (c types roles : List ℕ) where
   pub column-is : (p : ℕ) (s : List ℕ) {number a : ℕ} {o o₁ o₂ : List ℕ} {at b e : ℕ} → number ≡ getD s 0 0 → a ≡ number - 1
       → Wrote o at (firstValue (d .types) a ∷ getD c a 0 ∷ []) o₁ b
       → Wrote o₁ b (takenBefore c p (played number (firstRole d) types) ∷ position p roles ∷ []) o₂ e
-      → Wrote o at (columnOf d c types roles p (roleOf s)) o₂ e
+      → Wrote o at (columnOf d c types roles p (wideRole s)) o₂ e
   column-is p s en ea w u = wrote-as (wrote-then w u) (rw (ea, en))
 
   abbrev pub columnsFrom : ℕ → List Role → List ℕ
@@ -40,7 +39,7 @@ module _ (d : Diagram) (c types roles : List ℕ) where
 
   module _ (t : List ℕ) (q n p : ℕ) where
     pub columns-more : 0 < n
-        → Splits (columnsFrom p (rolesIn n (drop q t))) (columnOf d c types roles p (roleOf (drop q t)))
+        → Splits (columnsFrom p (rolesIn n (drop q t))) (columnOf d c types roles p (wideRole (drop q t)))
         (columnsFrom (p + 1) (rolesIn (n - 1) (drop (q + roleWidth) t)))
     unfolding mapFrom flatten
     columns-more h = record { is = ap (columnsFrom p) (role-more t q n h) ∙ rw add-one }

@@ -9,12 +9,11 @@ ghost use Prim.Native.Nat.{_+_, _≤_};
 ghost use lib.Dec.{eqb};
 ghost use lib.ListN.{length, getD, drop};
 ghost use Rattle.counting.specs.Lists.{mapFrom};
-ghost use Rattle.orm.specs.Form.{roleOf};
 ghost use Rattle.orm.specs.Sets.{firstRole};
 ghost use Rattle.orm.specs.Supertypes.{firstValue};
 ghost use Rattle.orm.specs.Populate.{takenBefore};
 ghost use Rattle.buffer.specs.Written.{Wrote};
-ghost use Rattle.table.specs.Positions.{roleWidth, diagramOf, Walkable};
+ghost use Rattle.table.specs.Positions.{roleWidth, wideRole, diagramOf, Walkable};
 ghost use Rattle.table.specs.Cursors.{placedAt, Here};
 ghost use Rattle.tuples.specs.Steps.{Small};
 ghost use Rattle.population.specs.Plan.{position, played, share, columnOf};
@@ -132,7 +131,7 @@ fn push_column(
     requires { ⌜ q + roleWidth ≤ length (now t) ⌝ }
     ensures { λ r.
         ⌜ Wrote (now (out .entry)) at
-        (columnOf (diagramOf (now (t .entry))) (now (c .entry)) (now (types .entry)) (now (roles .entry)) p (roleOf (drop q (now (t .entry)))))
+        (columnOf (diagramOf (now (t .entry))) (now (c .entry)) (now (types .entry)) (now (roles .entry)) p (wideRole (drop q (now (t .entry)))))
         (now (out .exit)) r ⌝ }
 {
     let number = table::number(t, q, 0);

@@ -20,7 +20,7 @@ use Rattle.reader.specs.declared.FormAnswer.the-variants as forms
 use Rattle.buffer.specs.Written.{Wrote}
 use Rattle.buffer.specs.Laws.{wrote-as, wrote-end, wrote-whole}
 use Rattle.widening.specs.declared.Acceptance.the-variants.{Refused, Widened}
-use Rattle.widening.specs.Widened.{tableFields, tableWidened, Fits}
+use Rattle.widening.specs.Widened.{tableWidened, FitsKind}
 use Rattle.widening.specs.Answer.{described, acceptanceOf, widened}
 use Rattle.widening.specs.Laws.Tables.{table-wide, table-fits}
 use Rattle.widening.specs.Laws.Accepts.{told-refused, Told, told-accepted}
@@ -61,12 +61,12 @@ module _ (t : List ℕ) {r : FormAnswer} {a b c d : ℕ} (p : r ≡ forms.Accept
   unfolding x totals
   preds-are = ap (λ (y : Totals). y .preds) (told .is)
 
-  pub form-fits : {o : List ℕ} → length o ≡ mostNumbers → Fits t 0 (tableFields a b t) (tableWidened a b t) o 0
-  form-fits h = table-fits x is types-are preds-are formed h
+  pub form-fits : {o : List ℕ} → length o ≡ mostNumbers → FitsKind a b t o
+  form-fits h = table-fits x formed is types-are preds-are h
 
   module _ {o o′ : List ℕ} {n : ℕ} (h : length o ≡ mostNumbers) (w : Wrote o 0 (tableWidened a b t) o′ n) where
     wide : Wrote o 0 (wideTable x) o′ n
-    wide = wrote-as w (table-wide x is types-are preds-are)
+    wide = wrote-as w (table-wide x formed is types-are preds-are)
 
     room : length (wideTable x) ≤ length o
     room = omega (arith, wide-short x formed, h)

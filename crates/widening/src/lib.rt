@@ -1,5 +1,5 @@
 // The table of a file, checked and written with role lines of one width: what every other crate walks.
-// Behind the numbers of each role line stand 1 and 4096, which limit nothing.
+// In `diagram=1` 1 and 4096 come behind the numbers of each role line, which limit nothing.
 use grammar::Fault;
 use lexer::lines::ROLE_FIELDS;
 use reader::FormAnswer;
@@ -13,7 +13,7 @@ ghost use Rattle.orm.specs.Calls.{diagramIn};
 ghost use Rattle.orm.specs.Form.{roleFields};
 ghost use Rattle.reading.specs.WideTable.{roleWidth, mostNumbers};
 ghost use Rattle.buffer.specs.Written.{Wrote};
-ghost use Rattle.widening.specs.Widened.{roleWidened, rolesWidened, predFields, predWidened, predsFields, predsWidened, tableFields, tableWidened, Fits};
+ghost use Rattle.widening.specs.Widened.{roleWidened, rolesWidened, predFields, predWidened, predsFields, predsWidened, plainFields, plainWidened, tableWidened, Fits, FitsKind};
 ghost use Rattle.widening.specs.Answer.{acceptanceOf, described, widened};
 
 // What a role line without RMIN and RMAX has in their place.
@@ -126,10 +126,10 @@ fn push_preds(t: &[u32], at: usize, n: usize, out: &mut [u32], to: usize) -> usi
 
 // ---- the table
 
-// The table of a diagram with so many types and predicates.
-fn widen(t: &[u32], types: usize, preds: usize, out: &mut [u32]) -> usize
-    requires { ⌜ Fits (now t) 0 (tableFields types preds (now t)) (tableWidened types preds (now t)) (now out) 0 ⌝ }
-    ensures { λ r. ⌜ Wrote (now (out .entry)) 0 (tableWidened types preds (now (t .entry))) (now (out .exit)) r ⌝ }
+// A table of `diagram=1`, with so many types and predicates.
+fn widen_plain(t: &[u32], types: usize, preds: usize, out: &mut [u32]) -> usize
+    requires { ⌜ Fits (now t) 0 (plainFields types preds (now t)) (plainWidened types preds (now t)) (now out) 0 ⌝ }
+    ensures { λ r. ⌜ Wrote (now (out .entry)) 0 (plainWidened types preds (now (t .entry))) (now (out .exit)) r ⌝ }
 {
     let first = 3 + 6 * types;
     let behind = copy(t, 0, first, out, 0);
@@ -137,7 +137,17 @@ fn widen(t: &[u32], types: usize, preds: usize, out: &mut [u32]) -> usize
     copy(t, t.len() - 1, 1, out, end)
 }
 
-// What `accept` writes to.
+// A table of either kind; in `diagram=2` its role lines are as wide already.
+fn widen(t: &[u32], types: usize, preds: usize, out: &mut [u32]) -> usize
+    requires { ⌜ FitsKind types preds (now t) (now out) ⌝ }
+    ensures { λ r. ⌜ Wrote (now (out .entry)) 0 (tableWidened types preds (now (t .entry))) (now (out .exit)) r ⌝ }
+{
+    if t[0] == 2 {
+        return copy(t, 0, t.len(), out, 0);
+    }
+    widen_plain(t, types, preds, out)
+}
+
 // Room for every table.
 pub fn scratch() -> [u32; MOST_NUMBERS] {
     [0u32; MOST_NUMBERS]

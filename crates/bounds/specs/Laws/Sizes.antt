@@ -19,7 +19,7 @@ module _ (d : Diagram) (w : WellFormed d) {n : ℕ} {c : List ℕ} (e : verdict 
   solution = verdict-laws d .at-fixpoint e .solution
 
   -- as many as there are sets
-  pub sizes-sets : length c ≡ length (upper d)
+  sizes-sets : length c ≡ length (upper d)
   sizes-sets = solution .under .sized
 
   pub sizes-few : length c ≤ 208

@@ -1,6 +1,5 @@
 -- A table that is accepted, for every call that starts with the check.
-use Prim.Native.Nat.{ℕ, _≤_}
-use native.Mathlib.Omega.{arith}
+use Prim.Native.Nat.{ℕ}
 use mathlib.Core.Path.{_≡_, sym, ap}
 use mathlib.Core.List.{List}
 use lib.ListN.{take}
@@ -15,7 +14,7 @@ use Rattle.widening.specs.declared.Acceptance.the-variants.{Widened}
 use Rattle.table.specs.Laws.Valid.{valid-walkable}
 use Rattle.limits.specs.Prepared.{ValidTotals}
 
-pub valid-totals : {t w : List ℕ} {types preds roles groups : ℕ} → Accepted t w types preds roles groups → ValidTotals w roles groups
+valid-totals : {t w : List ℕ} {types preds roles groups : ℕ} → Accepted t w types preds roles groups → ValidTotals w roles groups
 unfolding totals
 valid-totals a = record {
   valid = a .valid;
@@ -30,14 +29,3 @@ module _ (t w : List ℕ) {w′ : List ℕ} {r : Acceptance} {n types preds role
   pub table-totals : r ≡ Widened n types preds roles groups → acceptanceOf r ≡ described (diagramIn tableLine t)
       → w′ ≡ bufferAfter (widened t) w → ValidTotals (take n w′) roles groups
   table-totals p e ew = valid-totals (accepted-as t w p e ew)
-
--- numbers of roles and groups fit in 32 bits
-module _ {t : List ℕ} {roles groups : ℕ} (known : ValidTotals t roles groups) where
-  pub roles-narrow : roles ≤ 96
-  roles-narrow = omega (arith, known .counted .roles-are, known .valid .formed .roleCount)
-
-  pub groups-narrow : groups ≤ 96
-  groups-narrow = omega (arith, known .counted .groups-are, known .valid .formed .groupCount)
-
-  pub totals-as : {r g : ℕ} → r ≡ roles → g ≡ groups → ValidTotals t r g
-  totals-as er eg = rw (er, eg) known

@@ -11,7 +11,6 @@ write-limits-spec =
     (tie.spec
     (λ c κs. search needs)
     (λ c κs. search needs)
-    (λ c κs. search needs)
     (λ c κs. (search needs, search (needs, first-played)))
     (λ c. search needs)
     (λ c. search (needs, limits-is)))

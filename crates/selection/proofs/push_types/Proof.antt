@@ -6,7 +6,7 @@ use Rattle.table.specs.Positions.{roleWidth, rolesIn}
 use Rattle.buffer.specs.Written.{Writing}
 use Rattle.buffer.specs.Laws.{writing-start, writing-more, writing-all, writing-long}
 use Rattle.selection.specs.Selected.{typesOf}
-use Rattle.selection.specs.Laws.Selects.{types-more, types-none}
+use Rattle.selection.specs.Laws.Types.{numbers-more, numbers-none}
 use borrow.Author.Needs.{needs}
 use Rattle.selection.proofs.push_types.Statement.{statement}
 use Rattle.selection.proofs.push_types.Tie as tie
@@ -29,6 +29,6 @@ push-types-spec =
     (λ c. search needs)
     (λ c. search needs)
     (λ c. search needs)
-    (λ c. search (needs, writing-more, types-more))
+    (λ c. search (needs, writing-more, numbers-more))
     (λ c. search (needs, writing-long))
-    (λ c. search (needs, writing-all, types-none)))
+    (λ c. search (needs, writing-all, numbers-none)))

@@ -1,20 +1,22 @@
 -- `selection::write_types` meets its contract. The types of the roles of the predicates left come to the whole.
 -- Assumes nothing.
 use lib.ListN.{drop}
-use Rattle.orm.specs.Diagram.{allRoles}
+use Rattle.orm.specs.Diagram.{Role, allRoles}
 use Rattle.table.specs.Positions.{predsIn, diagramOf}
 use Rattle.table.specs.Cursors.{Ahead}
 use Rattle.table.specs.Laws.Walks.{ahead-start, ahead-here, ahead-third, ahead-more}
 use Rattle.buffer.specs.Written.{Writing}
 use Rattle.buffer.specs.Laws.{writing-more, writing-all, writing-long}
 use Rattle.selection.specs.Selected.{typesOf}
-use Rattle.selection.specs.Laws.Types.{typesWithin, types-start, roles-inside, types-next, types-end}
+use Rattle.selection.specs.Laws.Types.{within, roles-inside, within-start, within-next, within-end}
 use borrow.Author.Needs.{needs}
 use Rattle.selection.proofs.write_types.Statement.{statement}
 use Rattle.selection.proofs.write_types.Tie as tie
 
 abbrev Inv-loop : tie.InvT-loop
-Inv-loop t out₀ left₀ q₀ to₀ out left q to = Ahead t q left × Writing out₀ 0 (typesOf (allRoles (diagramOf t))) out to (typesWithin (predsIn left (drop q t)))
+Inv-loop t out₀ left₀ q₀ to₀ out left q to =
+    Ahead t q left
+    × Writing out₀ 0 (typesOf (allRoles (diagramOf t))) out to (within (λ (r : Role). r .type) (predsIn left (drop q t)))
 
 abbrev μ-loop : tie.MeasureT-loop
 μ-loop t out₀ left₀ q₀ to₀ out left q to = left
@@ -27,13 +29,13 @@ write-types-spec =
     μ-loop
     (λ c κs. search needs)
     (λ c κs. search needs)
-    (λ c. search (needs, types-start, ahead-start))
+    (λ c. search (needs, within-start, ahead-start))
     (λ c κs. search (needs, ahead-third))
     (λ c κs. search (needs, ahead-here))
     (λ c κs. search (needs, roles-inside))
     (λ c κs. search (needs, ahead-here))
     (λ c. search needs)
     (λ c. search needs)
-    (λ c. search (needs, writing-more, types-next, ahead-more))
+    (λ c. search (needs, writing-more, within-next, ahead-more))
     (λ c. search (needs, writing-long))
-    (λ c. search (needs, writing-all, types-end)))
+    (λ c. search (needs, writing-all, within-end)))

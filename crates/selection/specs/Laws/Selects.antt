@@ -9,12 +9,11 @@ use lib.Dec.{eqb}
 use lib.ListN.{length, getD, drop, length-append, drop-of-length-le}
 use lib.Seq.{drop-cons}
 use Rattle.orm.specs.Diagram.{Role}
-use Rattle.orm.specs.Form.{roleOf}
 use Rattle.counting.specs.Lists.{when, upFrom}
 use Rattle.orm.specs.Sets.{select, rolesInGroup, groupRoles}
 use Rattle.buffer.specs.Written.{Wrote, Splits}
 use Rattle.buffer.specs.Laws.{wrote-as, wrote-none}
-use Rattle.table.specs.Positions.{roleWidth, rolesIn, rolesStart}
+use Rattle.table.specs.Positions.{roleWidth, wideRole, rolesIn, rolesStart}
 use Rattle.table.specs.Laws.Walks.{role-more, role-none, roles-here}
 use Rattle.table.specs.Cursors.{placedAt}
 use Rattle.table.specs.declared.Cursor.{Cursor}
@@ -44,15 +43,7 @@ unfolding upFrom
 up-none x zero h = refl
 up-none x (suc n) h = absurd (omega arith)
 
--- ---- the types of roles, and the roles of a type
-
-module _ (t : List ℕ) (q n : ℕ) where
-  pub types-more : {v : ℕ} → 0 < n → v ≡ getD (drop q t) 0 0
-      → Splits (typesOf (rolesIn n (drop q t))) (v ∷ []) (typesOf (rolesIn (n - 1) (drop (q + roleWidth) t)))
-  types-more h e = record { is = ap typesOf (role-more t q n h) ∙ rw e }
-
-  pub types-none : n ≤ 0 → typesOf (rolesIn n (drop q t)) ≡ []
-  types-none h = ap typesOf (role-none n (drop q t) h)
+-- ---- the roles of a type
 
 module _ (number : ℕ) where
   pub positions-select : (i : ℕ) (rs : List Role) → positions number i (typesOf rs) ≡ select (λ (r : Role). eqb (r .type) number) i rs
@@ -131,7 +122,7 @@ module _ (t : List ℕ) (q n number : ℕ) where
   in-group-more set h ev eb = record {
     is =
         ap (rolesInGroup number set) (role-more t q n h)
-        ∙ select-cons (λ (r : Role). eqb (r .group) number) set (roleOf (drop q t)) _
+        ∙ select-cons (λ (r : Role). eqb (r .group) number) set (wideRole (drop q t)) _
         ∙ rw (eb, ev, add-one);
   }
 

@@ -4,15 +4,16 @@ use native.Mathlib.Omega.{arith}
 use mathlib.Core.Path.{_≡_, refl, ap, subst⁻¹, _∙_}
 use mathlib.Core.List.{List, [], _∷_, _++_, map, flatMap, List·Memᴰ·head as here, List·Memᴰ·tail as there}
 use lib.ListN.{length, getD, drop}
+use lib.Seq.{getD-drop}
 use Rattle.orm.specs.Diagram.{ObjectType, Role, Frequency, Predicate, Diagram, Line, lineOfType, lineOfRole, lineOfGroup, lineOfPred}
-use Rattle.orm.specs.Diagram.{linesOfPred, lineOfCount, allRoles, lines}
+use Rattle.orm.specs.Diagram.{linesOfPred, lineOfCount, limitsRoles, allRoles, lines, table}
 use Rattle.orm.specs.Form.{typeOf}
 use Rattle.orm.specs.Sets.{upper}
-use Rattle.counting.specs.Terms.{EachFrom}
-use Rattle.counting.specs.Terms.{Each}
+use Rattle.counting.specs.Terms.{Each, EachFrom}
 use Rattle.orm.specs.WellFormed.{TypeForm, RoleForm, GroupForm, PredForm, WellFormed}
 use Rattle.reading.specs.TextLength.{first-small}
-use Rattle.reading.specs.WideTable.{added, wideLine, wideTable}
+use Rattle.reading.specs.WideTable.{wideTable}
+use Rattle.reading.specs.WideLines.{limited, wide-as-limited}
 use Rattle.reading.specs.TableLength.{wide-length}
 use Rattle.orm.specs.Laws.Bounds.{length-upper}
 use Rattle.table.specs.Valid.{Valid, Under}
@@ -34,6 +35,9 @@ pub under-append : {b : ℕ} (xs ys : List ℕ) → Under b xs → Under b ys �
 under-append [] ys u v = v
 under-append (x ∷ xs) ys u v = under-cons (u .at 0) (under-append xs ys (record { at = λ k. u .at (suc k) }) v)
 
+under-tail : {b : ℕ} (xs : List ℕ) → Under b xs → Under b (drop 1 xs)
+under-tail xs u = record { at = λ k. rw (getD-drop 1 xs k 0) (u .at (1 + k)) }
+
 -- ---- the numbers of lines
 
 abbrev Small : List Line → Type 0
@@ -43,15 +47,15 @@ small-nil : Small []
 unfolding values flatMap
 small-nil = under-nil 999999
 
-small-cons : (l : Line) (ls : List Line) → Under 999999 (wideLine l) → Small ls → Small (l ∷ ls)
+small-cons : (l : Line) (ls : List Line) → Under 999999 (l .values) → Small ls → Small (l ∷ ls)
 unfolding values flatMap
-small-cons l ls u v = under-append (wideLine l) (values ls) u v
+small-cons l ls u v = under-append (l .values) (values ls) u v
 
 small-append : (ls ks : List Line) → Small ls → Small ks → Small (ls ++ ks)
 small-append ls ks u v = rw values-append (under-append (values ls) (values ks) u v)
 
 module _ {A : Type 0} where
-  small-each : (lineOf : A → Line) (xs : List A) → Each (λ (a : A). Under 999999 (wideLine (lineOf a))) xs → Small (map lineOf xs)
+  small-each : (lineOf : A → Line) (xs : List A) → Each (λ (a : A). Under 999999 (lineOf a .values)) xs → Small (map lineOf xs)
   small-each lineOf [] h = small-nil
   small-each lineOf (x ∷ xs) h = small-cons (lineOf x) (map lineOf xs) (h x (here refl)) (small-each lineOf xs (λ a m. h a (there m)))
 
@@ -67,10 +71,10 @@ pub each-of : {A : Type 0} (P : ℕ → A → Type 0) (Q : A → Type 0) → ((n
 each-of P Q f n (x ∷ xs) h a (here e) = subst⁻¹ Q e (f n x (h .0))
 each-of P Q f n (x ∷ xs) h a (there m) = each-of P Q f (suc n) xs (h .1) a m
 
--- ---- the lines of a well-formed diagram
+-- ---- the lines of a well-formed diagram, as `diagram=2`
 
-type-small : (us : List ObjectType) (n : ℕ) (t : ObjectType) → n ≤ 999999 → TypeForm us n t → Under 999999 (wideLine (lineOfType t))
-unfolding lineOfType added
+type-small : (us : List ObjectType) (n : ℕ) (t : ObjectType) → n ≤ 999999 → TypeForm us n t → Under 999999 (lineOfType t .values)
+unfolding lineOfType
 type-small us n t h f =
     under-cons (omega (arith, f .sizes, f .most))
     (under-cons (omega (arith, f .most))
@@ -85,48 +89,52 @@ types-small us n (t ∷ ts) h f =
     small-cons (lineOfType t) (map lineOfType ts) (type-small us n t (omega arith) (f .0)) (types-small us (suc n) ts (omega arith) (f .1))
 
 role-small : (types groups : ℕ) (r : Role) → types ≤ 999999 → groups ≤ 999999 → RoleForm types groups r
-    → Under 999999 (wideLine (lineOfRole r))
-unfolding lineOfRole added
+    → Under 999999 (lineOfRole 2 r .values)
+unfolding lineOfRole limitsRoles
 role-small types groups r h k f =
     under-cons (omega (arith, f .player .1))
     (under-cons (omega (arith, f .mand))
-    (under-cons (omega (arith, f .group)) (under-cons (omega arith) (under-cons (omega arith) (under-nil 999999)))))
+    (under-cons (omega (arith, f .group))
+    (under-cons (omega (arith, f .limits, f .most)) (under-cons (omega (arith, f .most)) (under-nil 999999)))))
 
-group-small : (rs : List Role) (n : ℕ) (g : Frequency) → GroupForm rs n g → Under 999999 (wideLine (lineOfGroup g))
-unfolding lineOfGroup added
+group-small : (rs : List Role) (n : ℕ) (g : Frequency) → GroupForm rs n g → Under 999999 (lineOfGroup g .values)
+unfolding lineOfGroup
 group-small rs n g f = under-cons (omega (arith, f .counts, f .most)) (under-cons (omega (arith, f .most)) (under-nil 999999))
 
-pred-small : (types : ℕ) (p : Predicate) → types ≤ 999999 → PredForm types p → Small (linesOfPred p)
-unfolding linesOfPred lineOfPred added
+pred-small : (types : ℕ) (p : Predicate) → types ≤ 999999 → PredForm types p → Small (linesOfPred 2 p)
+unfolding linesOfPred lineOfPred
 pred-small types p h f =
     let few : length (p .groups) ≤ 999999 = omega (arith, f .few) in
-    small-append (lineOfPred p ∷ map lineOfRole (p .roles)) (map lineOfGroup (p .groups))
-    (small-cons (lineOfPred p) (map lineOfRole (p .roles))
+    small-append (lineOfPred p ∷ map (lineOfRole 2) (p .roles)) (map lineOfGroup (p .groups))
+    (small-cons (lineOfPred p) (map (lineOfRole 2) (p .roles))
     (under-cons (omega (arith, f .sizes, f .most))
     (under-cons (omega (arith, f .most)) (under-cons (omega (arith, f .arity .1)) (under-cons few (under-nil 999999)))))
-    (small-each lineOfRole (p .roles) (λ r m. role-small types (length (p .groups)) r h few (f .roles r m))))
+    (small-each (lineOfRole 2) (p .roles) (λ r m. role-small types (length (p .groups)) r h few (f .roles r m))))
     (small-each lineOfGroup (p .groups) (each-of (GroupForm (p .roles)) _ (group-small (p .roles)) 1 (p .groups) (f .groups)))
 
 count-small : (n : ℕ) → n ≤ 999999 → Under 999999 (n ∷ [])
 count-small n h = under-cons h (under-nil 999999)
 
 module _ (d : Diagram) (w : WellFormed d) where
-  wide-small : Under 999999 (wideTable d)
-  unfolding wideTable lines lineOfCount values added
-  wide-small =
+  limited-small : Under 999999 (table (limited d))
+  unfolding table lines lineOfCount values allRoles
+  limited-small =
       let few : length (d .types) ≤ 999999 = omega (arith, w .typeCount .1) in
       small-append _ _
       (small-append _ _
-      (small-cons _ _ (count-small 1 (omega arith))
+      (small-cons _ _ (count-small 2 (omega arith))
       (small-cons _ _ (count-small (length (d .types)) few) (types-small (d .types) 1 (d .types) (omega (arith, w .typeCount .1)) (w .types))))
       (small-cons _ _ (count-small (length (d .preds)) (omega (arith, w .predCount .1)))
-      (small-flat linesOfPred (d .preds) (λ p m. pred-small (length (d .types)) p few (w .preds p m)))))
+      (small-flat (linesOfPred 2) (d .preds) (λ p m. pred-small (length (d .types)) p few (w .preds p m)))))
       (small-cons _ _ (count-small (length (allRoles d)) (omega (arith, w .roleCount))) small-nil)
+
+  wide-small : Under 999999 (wideTable d)
+  wide-small = rw (wide-as-limited d w) (under-cons (omega (arith, w .kinds .1)) (under-tail (table (limited d)) limited-small))
 
 -- The table of a well-formed diagram is valid
 pub wide-valid : {t : List ℕ} {d : Diagram} → t ≡ wideTable d → WellFormed d → Valid t
 wide-valid {t} {d} e w =
-    let same-d : diagramOf t ≡ d = ap diagramOf e ∙ wide-back d in
+    let same-d : diagramOf t ≡ d = ap diagramOf e ∙ wide-back d w in
     record { is = rw same-d e; formed = rw same-d w }
 
 abbrev Inside : List ℕ → Type 0
@@ -143,7 +151,7 @@ valid-walkable {t} v =
       few-preds = omega (arith, preds, v .formed .predCount .1);
       few-roles = v .formed .roleCount;
       few-groups = v .formed .groupCount;
-      whole = subst⁻¹ Inside (v .is) (wide-inside (diagramOf t));
+      whole = subst⁻¹ Inside (v .is) (wide-inside (diagramOf t) (v .formed));
     }
 
 -- A valid table has more than twice as many numbers as its diagram has sets: types, predicates, roles and groups

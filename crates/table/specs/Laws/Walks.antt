@@ -11,8 +11,8 @@ use mir.Syntax.{w32}
 use mir.Val.{Fits}
 pub use Rattle.counting.specs.Laws.Lines.{each-more, each-none, each-length}
 use Rattle.orm.specs.Diagram.{Predicate, allRoles}
-use Rattle.orm.specs.Form.{roleOf, groupOf}
-use Rattle.table.specs.Positions.{roleWidth, rolesIn, groupsIn, rolesStart, groupsStart, rolesOf, groupsOf, predOf, predLength, predsIn, predsLength, typeCount, predCount, firstPredAt, diagramOf, Walkable}
+use Rattle.orm.specs.Form.{groupOf}
+use Rattle.table.specs.Positions.{roleWidth, wideRole, rolesIn, groupsIn, rolesStart, groupsStart, rolesOf, groupsOf, predOf, predLength, predsIn, predsLength, typeCount, predCount, firstPredAt, diagramOf, Walkable}
 use Rattle.table.specs.Cursors.{Ahead, rolesAhead, groupsAhead}
 
 -- ---- one number
@@ -32,16 +32,16 @@ pred-count-few t w e = rw e (w .few-preds)
 
 -- ---- role lines
 
-pub role-more : (t : List ℕ) (at n : ℕ) → 0 < n → rolesIn n (drop at t) ≡ roleOf (drop at t) ∷ rolesIn (n - 1) (drop (at + roleWidth) t)
-role-more = each-more roleOf roleWidth
+pub role-more : (t : List ℕ) (at n : ℕ) → 0 < n → rolesIn n (drop at t) ≡ wideRole (drop at t) ∷ rolesIn (n - 1) (drop (at + roleWidth) t)
+role-more = each-more wideRole roleWidth
 
 pub role-none : (n : ℕ) (s : List ℕ) → n ≤ 0 → rolesIn n s ≡ []
-role-none = each-none roleOf roleWidth
+role-none = each-none wideRole roleWidth
 
 -- ---- the roles and groups of the predicate that starts at `at`: how many, and where they start
 
 pub role-count : (s : List ℕ) → length (rolesOf s) ≡ getD s 2 0
-role-count s = each-length roleOf roleWidth (getD s 2 0) (drop rolesStart s)
+role-count s = each-length wideRole roleWidth (getD s 2 0) (drop rolesStart s)
 
 pub group-count : (s : List ℕ) → length (groupsOf s) ≡ getD s 3 0
 group-count s = each-length groupOf 2 (getD s 3 0) (drop (groupsStart s) s)

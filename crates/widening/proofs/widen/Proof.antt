@@ -1,6 +1,6 @@
--- `widening::widen` meets its contract.
+-- `widening::widen` meets its contract. A table of the second kind stays, one of the first is widened.
 -- Assumes nothing.
-use Rattle.widening.specs.Laws.Writes.{start-room, first-fits, last-room, table-wrote}
+use Rattle.widening.specs.Laws.Writes.{limited-room, limited-wrote, plain-fits, plain-is}
 use borrow.Author.Needs.{needs}
 use Rattle.widening.proofs.widen.Statement.{statement}
 use Rattle.widening.proofs.widen.Tie as tie
@@ -10,10 +10,9 @@ widen-spec =
     tie.close
     (tie.spec
     (λ c. search needs)
+    (λ c κs. search (needs, limited-room))
     (λ c. search needs)
-    (λ c κs. search (needs, start-room))
-    (λ c κs. search (needs, first-fits))
+    (λ c. search (needs, limited-wrote))
+    (λ c κs. search (needs, plain-fits))
     (λ c. search needs)
-    (λ c κs. search (needs, last-room))
-    (λ c. search needs)
-    (λ c. search (needs, table-wrote)))
+    (λ c. search (needs, plain-is)))

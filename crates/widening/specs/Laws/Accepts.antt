@@ -45,10 +45,6 @@ module _ (t : List ℕ) {r : Acceptance} {f : Fault} {line : ℕ} (p : r ≡ Ref
       told-refused (λ (d : Diagram). record { wideLength = length (wideTable d); totals = totals d }) (diagramIn tableLine t)
       (sym (ap acceptanceOf p) ∙ e)
 
-  pub accepted-kept : {w w′ : List ℕ} → w′ ≡ bufferAfter (widened t) w → w′ ≡ w
-  unfolding bufferAfter
-  accepted-kept {w} q = q ∙ ap (λ (o : Outcome Diagram). bufferAfter (o >>= λ d. accepted (wideTable d)) w) accepted-refused
-
 -- ---- accepted
 
 module _ (t w : List ℕ) {w′ : List ℕ} {r : Acceptance} {n types preds roles groups : ℕ} (p : r ≡ Widened n types preds roles groups)
@@ -81,9 +77,10 @@ module _ (t w : List ℕ) {w′ : List ℕ} {r : Acceptance} {n types preds role
   pub accepted-as : Accepted t (take n w′) types preds roles groups
   unfolding tell
   accepted-as =
-      let same-d : diagramOf (take n w′) ≡ told .of = ap diagramOf front ∙ wide-back (told .of) in
+      let formed = table-accepted-iff t (told .of) .0 (told .reads) .1 in
+      let same-d : diagramOf (take n w′) ≡ told .of = ap diagramOf front ∙ wide-back (told .of) formed in
       record {
-        valid = wide-valid front (table-accepted-iff t (told .of) .0 (told .reads) .1);
+        valid = wide-valid front formed;
         reads = told .reads ∙ ap {B = Outcome Diagram} accepted (sym same-d);
         totals-are = ap totals same-d ∙ ap (λ (x : Described). x .totals) (told .is);
       }

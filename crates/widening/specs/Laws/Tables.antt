@@ -1,19 +1,22 @@
 -- Of the table of a diagram the positions give the table with role lines of one width.
-use Prim.Native.Nat.{ℕ, suc, _+_, _*_, _-_}
+use Prim.Native.Nat.{ℕ, zero, suc, _+_, _*_, _-_, _<_}
 use native.Mathlib.Omega.{arith}
 use mathlib.Core.Path.{_≡_, refl, sym, ap, ap₂, _∙_}
+use mathlib.Core.Bool.{Bool, true, false}
 use mathlib.Core.List.{List, [], _∷_, _++_, map, flatMap, append-assoc}
-use lib.ListN.{length, take, drop, length-append}
+use lib.ListN.{length, getD, take, drop, length-append}
+use borrow.Author.Tests.{eqb-true, eqb-false}
 use lib.Seq.{append-snoc, take-at, drop-at}
 use Rattle.counting.specs.Lists.{each}
 use Rattle.counting.specs.Laws.Maps.{flatMap-append}
 use Rattle.orm.specs.Diagram.{ObjectType, Role, Frequency, Predicate, Diagram, Line, lineOfType, lineOfRole, lineOfGroup, lineOfPred}
-use Rattle.orm.specs.Diagram.{linesOfPred, lineOfCount, diagramLine, typesLine, predsLine, endLine, allRoles, lines, table}
+use Rattle.orm.specs.Diagram.{linesOfPred, lineOfCount, diagramLine, typesLine, predsLine, endLine, limitsRoles, roleLineOf, allRoles, lines, table}
 use Rattle.orm.specs.WellFormed.{WellFormed}
 use Rattle.orm.specs.Form.{roleFields}
 use Rattle.reading.specs.WideTable.{added, wideLine, wideTable, mostNumbers}
-use Rattle.reading.specs.TableLength.{wide-short}
-use Rattle.widening.specs.Widened.{rolesWidened, groupsBehind, predFields, predWidened, predsFields, predsWidened, tableFields, tableWidened, Fits}
+use Rattle.reading.specs.WideLines.{limited-table}
+use Rattle.reading.specs.TableLength.{table-length, table-short, wide-short}
+use Rattle.widening.specs.Widened.{rolesWidened, groupsBehind, predFields, predWidened, predsFields, predsWidened, plainFields, plainWidened, tableWidened, FitsKind}
 
 -- The numbers of some lines, in a file and with role lines of one width
 abbrev narrow : List Line → List ℕ
@@ -34,13 +37,13 @@ unfolding flatMap lineOfType
 types-long [] = refl
 types-long (t ∷ ts) = omega (arith, types-long ts)
 
-roles-wide : (rs : List Role) (s : List ℕ) → rolesWidened (length rs) (narrow (map lineOfRole rs) ++ s) ≡ wide (map lineOfRole rs)
-unfolding rolesWidened each flatMap lineOfRole added
+roles-wide : (rs : List Role) (s : List ℕ) → rolesWidened (length rs) (narrow (map (lineOfRole 1) rs) ++ s) ≡ wide (map (lineOfRole 1) rs)
+unfolding rolesWidened each flatMap lineOfRole roleLineOf limitsRoles added
 roles-wide [] s = refl
 roles-wide (r ∷ rs) s = ap (λ (x : List ℕ). r .type ∷ r .mand ∷ r .group ∷ 1 ∷ 4096 ∷ x) (roles-wide rs s)
 
-roles-long : (rs : List Role) → length (narrow (map lineOfRole rs)) ≡ roleFields * length rs
-unfolding flatMap lineOfRole
+roles-long : (rs : List Role) → length (narrow (map (lineOfRole 1) rs)) ≡ roleFields * length rs
+unfolding flatMap lineOfRole limitsRoles
 roles-long [] = refl
 roles-long (r ∷ rs) = omega (arith, roles-long rs)
 
@@ -61,7 +64,7 @@ module _ (p : Predicate) (s : List ℕ) where
   head = lineOfPred p .values
 
   roles : List ℕ
-  roles = narrow (map lineOfRole (p .roles))
+  roles = narrow (map (lineOfRole 1) (p .roles))
 
   groups : List ℕ
   groups = narrow (map lineOfGroup (p .groups))
@@ -69,11 +72,11 @@ module _ (p : Predicate) (s : List ℕ) where
   whole : List ℕ
   whole = head ++ (roles ++ (groups ++ s))
 
-  pred-whole : narrow (linesOfPred p) ++ s ≡ whole
+  pred-whole : narrow (linesOfPred 1 p) ++ s ≡ whole
   unfolding whole head roles groups linesOfPred flatMap lineOfPred
   pred-whole =
       ap (λ (x : List ℕ). head ++ x)
-      (ap (λ (x : List ℕ). x ++ s) (flatMap-append (λ (l : Line). l .values) (map lineOfRole (p .roles)) (map lineOfGroup (p .groups)))
+      (ap (λ (x : List ℕ). x ++ s) (flatMap-append (λ (l : Line). l .values) (map (lineOfRole 1) (p .roles)) (map lineOfGroup (p .groups)))
       ∙ append-assoc roles groups s)
 
   groups-at : drop (groupsBehind whole) whole ≡ groups ++ s
@@ -91,58 +94,62 @@ module _ (p : Predicate) (s : List ℕ) where
       omega (arith, length-append roles groups, roles-long (p .roles), groups-long (p .groups)) in
       ap (λ (x : List ℕ). drop n (head ++ x)) (sym (append-assoc roles groups s)) ∙ drop-at (head ++ (roles ++ groups)) s n long
 
-  pred-long : length (narrow (linesOfPred p)) ≡ predFields whole
+  pred-long : length (narrow (linesOfPred 1 p)) ≡ predFields whole
   unfolding whole head roles groups linesOfPred flatMap lineOfPred
   pred-long =
       omega (
         arith,
-        ap length (flatMap-append (λ (l : Line). l .values) (map lineOfRole (p .roles)) (map lineOfGroup (p .groups))),
+        ap length (flatMap-append (λ (l : Line). l .values) (map (lineOfRole 1) (p .roles)) (map lineOfGroup (p .groups))),
         length-append roles groups,
         roles-long (p .roles),
         groups-long (p .groups),
       )
 
-  pred-wide : predWidened whole ≡ wide (linesOfPred p)
+  pred-wide : predWidened whole ≡ wide (linesOfPred 1 p)
   unfolding predWidened whole head roles groups linesOfPred flatMap lineOfPred added
   pred-wide =
       let own : take (2 * length (p .groups)) (drop (groupsBehind whole) whole) ≡ wide (map lineOfGroup (p .groups)) =
       ap (take (2 * length (p .groups))) groups-at ∙ take-at groups s (2 * length (p .groups)) (groups-long (p .groups))
       ∙ groups-same (p .groups) in
       ap₂ (λ (x y : List ℕ). head ++ x ++ y) (roles-wide (p .roles) (groups ++ s)) own
-      ∙ ap (λ (x : List ℕ). head ++ x) (sym (flatMap-append wideLine (map lineOfRole (p .roles)) (map lineOfGroup (p .groups))))
+      ∙ ap (λ (x : List ℕ). head ++ x) (sym (flatMap-append wideLine (map (lineOfRole 1) (p .roles)) (map lineOfGroup (p .groups))))
 
 -- the predicate and then those behind it
 module _ (p : Predicate) (ps : List Predicate) (s : List ℕ) where
   rest : List ℕ
-  rest = narrow (flatMap linesOfPred ps) ++ s
+  rest = narrow (flatMap (linesOfPred 1) ps) ++ s
 
-  preds-whole : narrow (linesOfPred p ++ flatMap linesOfPred ps) ++ s ≡ whole p rest
+  preds-whole : narrow (linesOfPred 1 p ++ flatMap (linesOfPred 1) ps) ++ s ≡ whole p rest
   unfolding rest
   preds-whole =
-      ap (λ (x : List ℕ). x ++ s) (flatMap-append (λ (l : Line). l .values) (linesOfPred p) (flatMap linesOfPred ps))
-      ∙ append-assoc (narrow (linesOfPred p)) (narrow (flatMap linesOfPred ps)) s
+      ap (λ (x : List ℕ). x ++ s) (flatMap-append (λ (l : Line). l .values) (linesOfPred 1 p) (flatMap (linesOfPred 1) ps))
+      ∙ append-assoc (narrow (linesOfPred 1 p)) (narrow (flatMap (linesOfPred 1) ps)) s
       ∙ pred-whole p rest
 
 preds-wide : (ps : List Predicate) (s : List ℕ)
-    → predsWidened (length ps) (narrow (flatMap linesOfPred ps) ++ s) ≡ wide (flatMap linesOfPred ps)
+    → predsWidened (length ps) (narrow (flatMap (linesOfPred 1) ps) ++ s) ≡ wide (flatMap (linesOfPred 1) ps)
 unfolding predsWidened flatMap rest
 preds-wide [] s = refl
 preds-wide (p ∷ ps) s =
     ap (predsWidened (suc (length ps))) (preds-whole p ps s)
     ∙ ap₂ _++_ (pred-wide p (rest p ps s)) (ap (predsWidened (length ps)) (pred-end p (rest p ps s)) ∙ preds-wide ps s)
-    ∙ sym (flatMap-append wideLine (linesOfPred p) (flatMap linesOfPred ps))
+    ∙ sym (flatMap-append wideLine (linesOfPred 1 p) (flatMap (linesOfPred 1) ps))
 
 preds-long : (ps : List Predicate) (s : List ℕ)
-    → predsFields (length ps) (narrow (flatMap linesOfPred ps) ++ s) ≡ length (narrow (flatMap linesOfPred ps))
+    → predsFields (length ps) (narrow (flatMap (linesOfPred 1) ps) ++ s) ≡ length (narrow (flatMap (linesOfPred 1) ps))
 unfolding predsFields flatMap rest
 preds-long [] s = refl
 preds-long (p ∷ ps) s =
     ap (predsFields (suc (length ps))) (preds-whole p ps s)
     ∙ ap₂ _+_ (sym (pred-long p (rest p ps s))) (ap (predsFields (length ps)) (pred-end p (rest p ps s)) ∙ preds-long ps s)
-    ∙ sym (length-append (narrow (linesOfPred p)) (narrow (flatMap linesOfPred ps)))
-    ∙ ap length (sym (flatMap-append (λ (l : Line). l .values) (linesOfPred p) (flatMap linesOfPred ps)))
+    ∙ sym (length-append (narrow (linesOfPred 1 p)) (narrow (flatMap (linesOfPred 1) ps)))
+    ∙ ap length (sym (flatMap-append (λ (l : Line). l .values) (linesOfPred 1 p) (flatMap (linesOfPred 1) ps)))
 
--- ---- the table
+-- ---- the table, in `diagram=1`
+
+-- with the types and predicates of `d`
+abbrev plainOf : Diagram → Diagram
+plainOf d = record { kind = 1; types = d .types; preds = d .preds }
 
 module _ (d : Diagram) where
   -- the lines before the predicates, those of the predicates, the last
@@ -151,18 +158,18 @@ module _ (d : Diagram) where
       ++ lineOfCount predsLine (length (d .preds)) ∷ []
 
   predLines : List Line
-  predLines = flatMap linesOfPred (d .preds)
+  predLines = flatMap (linesOfPred 1) (d .preds)
 
   last : List Line
   last = lineOfCount endLine (length (allRoles d)) ∷ []
 
-  lines-are : lines d ≡ before ++ predLines ++ last
-  unfolding lines before predLines last
+  lines-are : lines (plainOf d) ≡ before ++ predLines ++ last
+  unfolding lines before predLines last allRoles
   lines-are =
       let front : List Line = lineOfCount diagramLine 1 ∷ lineOfCount typesLine (length (d .types)) ∷ map lineOfType (d .types) in
       ap (λ (x : List Line). x ++ last) (sym (append-snoc front (lineOfCount predsLine (length (d .preds))) predLines))
 
-  numbers-are : (f : Line → List ℕ) → flatMap f (lines d) ≡ flatMap f before ++ flatMap f predLines ++ flatMap f last
+  numbers-are : (f : Line → List ℕ) → flatMap f (lines (plainOf d)) ≡ flatMap f before ++ flatMap f predLines ++ flatMap f last
   numbers-are f =
       ap (flatMap f) lines-are ∙ flatMap-append f (before ++ predLines) last
       ∙ ap (λ (x : List ℕ). x ++ flatMap f last) (flatMap-append f before predLines)
@@ -216,32 +223,66 @@ module _ (d : Diagram) where
       let long : length (narrow before ++ narrow predLines) ≡ length flat - 1 = omega (arith, flat-long) in
       ap (take 1) (drop-at (narrow before ++ narrow predLines) (narrow last) (length flat - 1) long)
 
-  wide-is : tableWidened (length (d .types)) (length (d .preds)) (table d) ≡ wideTable d
-  unfolding tableWidened table wideTable n flat predLines
+  wide-is : plainWidened (length (d .types)) (length (d .preds)) (table (plainOf d)) ≡ wideTable (plainOf d)
+  unfolding plainWidened table wideTable n flat predLines
   wide-is =
-      ap (tableWidened (length (d .types)) (length (d .preds))) (numbers-are (λ (l : Line). l .values))
+      ap (plainWidened (length (d .types)) (length (d .preds))) (numbers-are (λ (l : Line). l .values))
       ∙ ap₂ _++_
       (ap₂ _++_ (before-at ∙ before-same) (ap (predsWidened (length (d .preds))) preds-at ∙ preds-wide (d .preds) (narrow last)))
       last-at
       ∙ sym (numbers-are wideLine)
 
-  fields-are : tableFields (length (d .types)) (length (d .preds)) (table d) ≡ length (table d)
+  fields-are : plainFields (length (d .types)) (length (d .preds)) (table (plainOf d)) ≡ length (table (plainOf d))
   unfolding table n flat predLines
   fields-are =
-      let is : table d ≡ flat = numbers-are (λ (l : Line). l .values) in
+      let is : table (plainOf d) ≡ flat = numbers-are (λ (l : Line). l .values) in
       let fields : predsFields (length (d .preds)) (drop n flat) ≡ length (narrow predLines) =
       ap (predsFields (length (d .preds))) preds-at ∙ preds-long (d .preds) (narrow last) in
       rw is (omega (arith, fields, flat-long, length-append (narrow before) (narrow predLines), before-long))
 
--- Of the table of a diagram, with the numbers of its types and predicates
-module _ (d : Diagram) {t : List ℕ} {types preds : ℕ} (e : t ≡ table d) (et : length (d .types) ≡ types)
-    (ep : length (d .preds) ≡ preds) where
-  pub table-wide : tableWidened types preds t ≡ wideTable d
-  table-wide = rw (e, ← et, ← ep) (wide-is d)
+-- ---- of either kind, with the numbers of its types and predicates
 
-  pub table-fits : {o : List ℕ} → WellFormed d → length o ≡ mostNumbers
-      → Fits t 0 (tableFields types preds t) (tableWidened types preds t) o 0
-  table-fits w h = record {
-    inside = rw (e, ← et, ← ep) (omega (arith, fields-are d));
-    room = rw table-wide (omega (arith, wide-short d w, h));
+first-number : (d : Diagram) → getD (table d) 0 0 ≡ d .kind
+unfolding table lines lineOfCount flatMap
+first-number d = refl
+
+some-numbers : (d : Diagram) → 0 < length (table d)
+some-numbers d = omega (arith, table-length d)
+
+module _ (d : Diagram) (w : WellFormed d) {t : List ℕ} {types preds : ℕ} (e : t ≡ table d) (et : length (d .types) ≡ types)
+    (ep : length (d .preds) ≡ preds) where
+  kind-is : getD t 0 0 ≡ d .kind
+  kind-is = ap (λ (s : List ℕ). getD s 0 0) e ∙ first-number d
+
+  plain : (getD t 0 0 ≡ 2 → ⊥) → d .kind ≡ 1
+  plain n = go (d .kind) refl
+    where
+      go : (k : ℕ) → d .kind ≡ k → d .kind ≡ 1
+      go zero q = absurd (omega (arith, w .kinds .0))
+      go (suc zero) q = q
+      go (suc (suc zero)) q = absurd (n (kind-is ∙ q))
+      go (suc (suc (suc k))) q = absurd (omega (arith, w .kinds .1))
+
+  same : (getD t 0 0 ≡ 2 → ⊥) → d ≡ plainOf d
+  same n = ap (λ (k : ℕ). record { kind = k; types = d .types; preds = d .preds }) (plain n)
+
+  plain-wide : (getD t 0 0 ≡ 2 → ⊥) → plainWidened types preds t ≡ wideTable d
+  plain-wide n = rw (e ∙ ap table (same n), ← et, ← ep, same n) (wide-is d)
+
+  pub table-wide : tableWidened types preds t ≡ wideTable d
+  unfolding tableWidened
+  table-wide = go (limitsRoles (getD t 0 0)) refl
+    where
+      go : (b : Bool) → limitsRoles (getD t 0 0) ≡ b → elim b [ true ↦ t | false ↦ plainWidened types preds t ] ≡ wideTable d
+      go true q = e ∙ sym (limited-table d w (sym kind-is ∙ (unfold limitsRoles in eqb-true (getD t 0 0) 2 q)))
+      go false q = plain-wide (unfold limitsRoles in eqb-false (getD t 0 0) 2 q)
+
+  pub table-fits : {o : List ℕ} → length o ≡ mostNumbers → FitsKind types preds t o
+  table-fits h = record {
+    some = rw e (some-numbers d);
+    limited = λ q. rw e (omega (arith, table-short d w, h));
+    plain = λ n. record {
+      inside = rw (e ∙ ap table (same n), ← et, ← ep) (omega (arith, fields-are d));
+      room = rw (plain-wide n) (omega (arith, wide-short d w, h));
+    };
   }

@@ -5,14 +5,16 @@ use native.Mathlib.Omega.{arith}
 use mathlib.Core.Path.{_≡_, refl, sym, ap, ap₂, _∙_}
 use mathlib.Core.List.{List, [], _∷_, _++_, flatMap}
 use lib.ListN.{length, getD, take, drop, set, length-append, length-drop}
-use lib.Seq.{drop-cons, drop-drop, getD-drop, length-take-le}
+use borrow.Author.Tests.{ne-eqb}
+use lib.Seq.{take-all, drop-cons, drop-drop, getD-drop, length-take-le}
 use Rattle.counting.specs.Lists.{each}
 use Rattle.counting.specs.Laws.Lines.{each-more, each-none}
+use Rattle.orm.specs.Diagram.{limitsRoles}
 use Rattle.orm.specs.Form.{roleFields}
 use Rattle.reading.specs.WideTable.{roleWidth}
 use Rattle.buffer.specs.Written.{Wrote, Writing, Splits}
 use Rattle.buffer.specs.Laws.{wrote-long, wrote-then, wrote-as, wrote-one, wrote-all, wrote-behind, writing-more, writing-long}
-use Rattle.widening.specs.Widened.{roleWidened, rolesWidened, groupsBehind, predFields, predWidened, predsFields, predsWidened, tableFields, tableWidened, Fits}
+use Rattle.widening.specs.Widened.{roleWidened, rolesWidened, groupsBehind, predFields, predWidened, predsFields, predsWidened, plainFields, plainWidened, tableWidened, Fits, FitsKind}
 
 -- ---- what fits in two parts
 
@@ -197,12 +199,12 @@ module _ (t : List ℕ) (at n : ℕ) where
 
 -- ---- the table
 
-module _ {t o : List ℕ} (types preds : ℕ) (f : Fits t 0 (tableFields types preds t) (tableWidened types preds t) o 0) where
+module _ {t o : List ℕ} (types preds : ℕ) (f : Fits t 0 (plainFields types preds t) (plainWidened types preds t) o 0) where
   first : ℕ
   first = 3 + 6 * types
 
   start : Fits t 0 (first + predsFields preds (drop first t)) (take first t ++ predsWidened preds (drop first t)) o 0
-  unfolding tableWidened first
+  unfolding plainWidened first
   start = fits-first (first + predsFields preds (drop first t)) 1 _ (take 1 (drop (length t - 1) t)) f
 
   pub start-room : 0 + (3 + 6 * types) ≤ length o
@@ -218,14 +220,34 @@ module _ {t o : List ℕ} (types preds : ℕ) (f : Fits t 0 (tableFields types p
 
     module _ {o₂ : List ℕ} {to₂ : ℕ} (v : Wrote o₁ to₁ (predsWidened preds (drop (3 + 6 * types) t)) o₂ to₂) where
       pub last-room : to₂ + 1 ≤ length o₂
-      unfolding tableWidened
+      unfolding plainWidened
       last-room =
           let last : List ℕ = drop (length t - 1) t in
           let one : 1 ≤ length last = simp length-drop (omega (arith, f .inside)) in
           let rest = fits-rest _ 1 _ (take 1 last) f refl (wrote-then w v) in
           omega (arith, rest .room, length-take-le 1 last one)
 
-      pub table-wrote : {o₃ : List ℕ} {to₃ : ℕ} → Wrote o₂ to₂ (take 1 (drop (length t - 1) t)) o₃ to₃
-          → Wrote o 0 (tableWidened types preds t) o₃ to₃
-      unfolding tableWidened
-      table-wrote u = wrote-then (wrote-then w v) u
+      pub plain-wrote : {o₃ : List ℕ} {to₃ : ℕ} → Wrote o₂ to₂ (take 1 (drop (length t - 1) t)) o₃ to₃
+          → Wrote o 0 (plainWidened types preds t) o₃ to₃
+      unfolding plainWidened
+      plain-wrote u = wrote-then (wrote-then w v) u
+
+-- ---- a table of either kind
+
+module _ (types preds : ℕ) (t : List ℕ) where
+  pub limited-wrote : {o o′ : List ℕ} {to : ℕ} → getD t 0 0 ≡ 2 → Wrote o 0 (take (length t) (drop 0 t)) o′ to
+      → Wrote o 0 (tableWidened types preds t) o′ to
+  unfolding tableWidened limitsRoles
+  limited-wrote e w = wrote-as w (take-all (length t) t (omega arith) ∙ rw (e, tableWidened) refl)
+
+  pub plain-is : {o o′ : List ℕ} {to : ℕ} → (getD t 0 0 ≡ 2 → ⊥) → Wrote o 0 (plainWidened types preds t) o′ to
+      → Wrote o 0 (tableWidened types preds t) o′ to
+  unfolding tableWidened limitsRoles
+  plain-is n w = wrote-as w (rw (ne-eqb (getD t 0 0) 2 n, tableWidened) refl)
+
+  module _ {o : List ℕ} (f : FitsKind types preds t o) where
+    pub limited-room : getD t 0 0 ≡ 2 → 0 + length t ≤ length o
+    limited-room e = omega (arith, f .limited e)
+
+    pub plain-fits : (getD t 0 0 ≡ 2 → ⊥) → Fits t 0 (plainFields types preds t) (plainWidened types preds t) o 0
+    plain-fits n = f .plain n

@@ -1,8 +1,9 @@
 -- What columns and rows of a slice hold, for every slice: what is not there reads as 0.
 use Prim.Native.Nat.{ℕ, zero, suc}
+use mathlib.Core.Path.{_≡_, refl, ap}
 use mathlib.Core.Bool.{Bool}
 use mathlib.Core.List.{List, [], _∷_, map}
-use lib.ListN.{getD, drop}
+use lib.ListN.{length, getD, drop}
 use Rattle.counting.specs.Lists.{same, combination}
 use Rattle.counting.specs.Distinct.{all, occurrences}
 use Rattle.orm.specs.Form.{_to_, inRange}
@@ -17,6 +18,11 @@ spaced (suc n) step s = getD s 0 0 ∷ spaced n step (drop step s)
 
 abbrev pub valuesIn : List ℕ → Column → List ℕ
 valuesIn s c = spaced (c .count) (c .step) (drop (c .start) s)
+
+pub length-spaced : (n step : ℕ) (s : List ℕ) → length (spaced n step s) ≡ n
+unfolding spaced
+length-spaced zero step s = refl
+length-spaced (suc n) step s = ap suc (length-spaced n step (drop step s))
 
 -- What the columns `js` hold, row by row
 unfoldable pub keysOf : ℕ → ℕ → List ℕ → List ℕ → List (List ℕ)

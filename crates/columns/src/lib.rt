@@ -1,10 +1,10 @@
-// Tests of the columns and rows that stand in a slice of cells: members, sublists, occurrences.
+// Tests of the columns and rows that stand in a slice of cells: members, sublists, different values, occurrences.
 ghost use mathlib.Core.Path.{_≡_};
 ghost use Prim.Native.Nat.{_+_, _≤_, _<_, min};
 ghost use lib.Dec.{eqb};
 ghost use lib.ListN.{length, getD, take, drop};
 ghost use Rattle.counting.specs.Lists.{same, combination};
-ghost use Rattle.counting.specs.Distinct.{all, member, occurrences, within};
+ghost use Rattle.counting.specs.Distinct.{all, member, distinct, occurrences, within};
 ghost use Rattle.counting.specs.Totals.{bit};
 ghost use Rattle.orm.specs.Form.{inRange, _to_};
 ghost use Rattle.columns.specs.Values.{valuesIn, keysIn, occurring};
@@ -129,6 +129,35 @@ pub fn all_in_range(s: &[u32], column: Column, low: u32, high: u32) -> bool
     true
 }
 
+fn bit(b: bool) -> usize
+    ensures { λ r. ⌜ r ≡ bit b ⌝ }
+    ensures { λ r. ⌜ r ≤ 1 ⌝ }
+{
+    if b { 1 } else { 0 }
+}
+
+// How many different values the column holds: each counts where it stands last.
+pub fn different(s: &[u32], column: Column) -> usize
+    requires { ⌜ Reached (now s) column ⌝ }
+    ensures { λ r. ⌜ r ≡ length (distinct eqb (valuesIn (now (s .entry)) column)) ⌝ }
+{
+    let mut at = column.start;
+    let mut left = column.count;
+    let mut n: usize = 0;
+    while 0 < left {
+        let x = value_at(s, at);
+        at += column.step;
+        left -= 1;
+        let rest = Column {
+            start: at,
+            step: column.step,
+            count: left,
+        };
+        n += bit(!found(s, rest, x));
+    }
+    n
+}
+
 // Cell j of the row of `width` cells that starts at `at`.
 pub fn row_cell(s: &[u32], at: usize, width: usize, j: usize) -> u32
     requires { ⌜ j < width ⌝ }
@@ -153,13 +182,6 @@ pub fn same_key(s: &[u32], width: usize, js: &[u32], a: usize, b: usize) -> bool
         i += 1;
     }
     true
-}
-
-fn bit(b: bool) -> usize
-    ensures { λ r. ⌜ r ≡ bit b ⌝ }
-    ensures { λ r. ⌜ r ≤ 1 ⌝ }
-{
-    if b { 1 } else { 0 }
 }
 
 // How many rows hold in the columns `js` what the row that starts at `a` holds there.

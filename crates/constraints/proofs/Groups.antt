@@ -131,8 +131,8 @@ k9-groups g [] rs rows = refl
 k9-groups g (f ∷ fs) rs rows = ap (λ (b : Bool). groupTest g f rs rows && b) (k9-groups (suc g) fs rs rows)
 
 pub is-k9 : (k : ℕ) (o : Population) (p : Predicate) (rows : List (List ℕ)) {b : Bool} → (k ≡ 5 → ⊥) → (k ≡ 6 → ⊥) → (k ≡ 7 → ⊥)
-    → (k ≡ 8 → ⊥)
+    → (k ≡ 8 → ⊥) → (k ≡ 11 → ⊥)
     → b ≡ groupsTest 1 (p .groups) (p .roles) rows → b ≡ predTest k o p rows
 unfolding predTest K9 grouped
-is-k9 k o p rows n₅ n₆ n₇ n₈ h =
-    rw (ne-eqb k 5 n₅, ne-eqb k 6 n₆, ne-eqb k 7 n₇, ne-eqb k 8 n₈, predTest) (h ∙ sym (k9-groups 1 (p .groups) (p .roles) rows))
+is-k9 k o p rows n₅ n₆ n₇ n₈ n₁₁ h =
+    rw (ne-eqb k 5 n₅, ne-eqb k 6 n₆, ne-eqb k 7 n₇, ne-eqb k 8 n₈, ne-eqb k 11 n₁₁, predTest) (h ∙ sym (k9-groups 1 (p .groups) (p .roles) rows))

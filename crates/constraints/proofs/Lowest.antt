@@ -6,7 +6,7 @@ use mathlib.Core.Path.{_≡_, refl, ap}
 use mathlib.Core.Bool.{Bool, true, false, not}
 use mathlib.Core.Option.{Option, none, some}
 use mathlib.Core.List.{List, [], _∷_}
-use lib.Dec.{leb}
+use lib.Dec.{eqb}
 use lib.ListN.{drop}
 use borrow.Author.Tests.{le-leb, lt-leb, not-true, not-false}
 use Rattle.orm.specs.Diagram.{Diagram}
@@ -81,7 +81,7 @@ pub types-low : (k : ℕ) → k ≤ 4 → true ≡ ofTypes k
 unfolding ofTypes
 types-low k h = rw (le-leb k 4 h, ofTypes)
 
-pub types-high : (k : ℕ) → 4 < k → leb 10 k ≡ ofTypes k
+pub types-high : (k : ℕ) → 4 < k → eqb k 10 ≡ ofTypes k
 unfolding ofTypes
 types-high k h = rw (lt-leb k 4 h, ofTypes)
 
@@ -145,6 +145,6 @@ module _ (d : Diagram) (o : Population) (k left : ℕ) where
         go none q f z = z
         go (some m) q f z = absurd (omega (arith, found-above 1 (kept k d o) m q))
 
-pub constraints-start : (d : Diagram) (o : Population) → firstBroken 1 (keptFrom 10 1 d o) ≡ answer d o
+pub constraints-start : (d : Diagram) (o : Population) → firstBroken 1 (keptFrom 11 1 d o) ≡ answer d o
 unfolding answer constraints keptFrom kept ofTypes typeTest predTest
 constraints-start d o = refl

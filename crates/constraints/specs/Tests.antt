@@ -1,15 +1,17 @@
 -- The constraints by their numbers, and the tests that they are made of.
 use Prim.Native.Nat.{ℕ, zero, suc}
-use mathlib.Core.Bool.{Bool, true, false, _&&_}
+use mathlib.Core.Bool.{Bool, true, false, not, _&&_}
 use mathlib.Core.Option.{Option, none, some}
 use mathlib.Core.List.{List, [], _∷_, _++_, map}
 use lib.Dec.{eqb, leb}
+use lib.ListN.{length}
 use Rattle.counting.specs.Lists.{column, combination}
-use Rattle.counting.specs.Distinct.{within}
+use Rattle.counting.specs.Distinct.{distinct, within}
 use Rattle.orm.specs.Diagram.{ObjectType, Role, Frequency, Predicate, Diagram, isMandatory}
+use Rattle.orm.specs.Form.{_to_, inRange}
 use Rattle.orm.specs.Sets.{rolesInGroup}
 use Rattle.orm.specs.Population.{Population}
-use Rattle.orm.specs.Constraints.{Answer, valid, breaks, eachType, eachPred, membersOf, K1, K2, K3, K4, K5, K6, K7, K8, K9, K10}
+use Rattle.orm.specs.Constraints.{Answer, valid, breaks, eachType, eachPred, membersOf, K1, K2, K3, K4, K5, K6, K7, K8, K9, K10, K11}
 use Rattle.columns.specs.Values.{occurring}
 use Rattle.constraints.specs.declared.Verdict.{Verdict}
 use Rattle.constraints.specs.declared.Verdict.the-variants as verdicts
@@ -31,7 +33,7 @@ typeTest k d o number t vs =
           ]
     ]
 
--- Constraint number k of a predicate: K5 to K8, else K9
+-- Constraint number k of a predicate: K5 to K8 and K11, else K9
 unfoldable pub predTest : ℕ → Population → Predicate → List (List ℕ) → Bool
 predTest k o p rows =
     elim (eqb k 5) [
@@ -43,7 +45,7 @@ predTest k o p rows =
                 elim (eqb k 7) [
                   | true ↦ K7 o p rows
                   | false ↦
-                      elim (eqb k 8) [ true ↦ K8 o p rows | false ↦ K9 p rows ]
+                      elim (eqb k 8) [ true ↦ K8 o p rows | false ↦ elim (eqb k 11) [ true ↦ K11 p rows | false ↦ K9 p rows ] ]
                 ]
           ]
     ]
@@ -54,9 +56,21 @@ predTest k o p rows =
 unfoldable pub filled : Population → Role → List ℕ → Bool
 filled o r vs = elim (isMandatory r) [ true ↦ within eqb (membersOf o (r .type)) vs | false ↦ true ]
 
--- K7 of it, else K8
+-- K11 of it
+unfoldable pub limited : Role → List ℕ → Bool
+limited r vs = inRange (r .rmin to r .rmax) (length (distinct eqb vs))
+
+-- Limits that no column of `n` values can break: some value is there, and at most all differ
+unfoldable pub loose : ℕ → ℕ → ℕ → Bool
+loose low high n = eqb low 1 && (not (eqb n 0) && leb n high)
+
+-- K7 of it or K8, else K11
 unfoldable pub roleTest : ℕ → Population → Role → List ℕ → Bool
-roleTest k o r vs = elim (eqb k 7) [ true ↦ within eqb vs (membersOf o (r .type)) | false ↦ filled o r vs ]
+roleTest k o r vs =
+    elim (eqb k 7) [
+      | true ↦ within eqb vs (membersOf o (r .type))
+      | false ↦ elim (eqb k 8) [ true ↦ filled o r vs | false ↦ limited r vs ]
+    ]
 
 -- of some roles, the first of them with column `j`
 unfoldable pub rolesTest : ℕ → Population → ℕ → List Role → List (List ℕ) → Bool
@@ -88,7 +102,7 @@ numberIn (some n) = n
 
 -- Whether a constraint is one of types
 unfoldable pub ofTypes : ℕ → Bool
-ofTypes k = elim (leb k 4) [ true ↦ true | false ↦ leb 10 k ]
+ofTypes k = elim (leb k 4) [ true ↦ true | false ↦ eqb k 10 ]
 
 -- Whether each type or predicate keeps constraint number k
 unfoldable pub kept : ℕ → Diagram → Population → List Bool

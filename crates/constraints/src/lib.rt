@@ -1,4 +1,4 @@
-// The constraints K1 to K10 of the population in some cells, and the lowest that is broken.
+// The constraints K1 to K11 of the population in some cells, and the lowest that is broken.
 use columns::Column;
 use selection::players::must_play;
 use selection::players::plays;
@@ -7,16 +7,16 @@ ghost use Prim.Native.Nat.{_+_, _≤_, _<_};
 ghost use lib.Dec.{eqb};
 ghost use lib.ListN.{length, take, drop};
 ghost use Rattle.counting.specs.Distinct.{within};
-ghost use Rattle.orm.specs.Form.{typeOf, roleOf, groupOf};
+ghost use Rattle.orm.specs.Form.{typeOf, groupOf};
 ghost use Rattle.orm.specs.Sets.{rolesInGroup};
 ghost use Rattle.orm.specs.Constraints.{K1, K2, K3, K4, K5, K6, K10, eachType, eachPred, firstFalse, membersOf, answer};
-ghost use Rattle.table.specs.Positions.{predOf, predLength, diagramOf, Walkable};
+ghost use Rattle.table.specs.Positions.{wideRole, predOf, predLength, diagramOf, Walkable};
 ghost use Rattle.columns.specs.Values.{valuesIn};
 ghost use Rattle.columns.specs.Reach.{Reached};
 ghost use Rattle.blocks.specs.Blocks.{membersAt, predWidth};
 ghost use Rattle.blocks.specs.Standing.{PredHere, Populated};
 ghost use Rattle.playing.specs.Playing.{populationOf, predAt, rowsHere};
-ghost use Rattle.constraints.specs.Tests.{typeTest, predTest, filled, roleTest, rolesTest, groupTest, groupsTest};
+ghost use Rattle.constraints.specs.Tests.{typeTest, predTest, filled, loose, limited, roleTest, rolesTest, groupTest, groupsTest};
 ghost use Rattle.constraints.specs.Tests.{numberIn, ofTypes, kept, pushed, answerOf};
 
 // The lowest broken constraint with the lowest number that breaks it.
@@ -105,7 +105,7 @@ fn pred_size(t: &[u32], cells: &[u32], pred: usize, at: usize) -> bool
 fn role_within(t: &[u32], cells: &[u32], role: usize, values: Column) -> bool
     requires { ⌜ Walkable (now t) ⌝ }
     requires { ⌜ Reached (now cells) values ⌝ }
-    ensures { λ r. ⌜ r ≡ within eqb (valuesIn (now (cells .entry)) values) (membersOf (populationOf (now (t .entry)) (now (cells .entry))) (roleOf (drop role (now (t .entry))) .type)) ⌝ }
+    ensures { λ r. ⌜ r ≡ within eqb (valuesIn (now (cells .entry)) values) (membersOf (populationOf (now (t .entry)) (now (cells .entry))) (wideRole (drop role (now (t .entry))) .type)) ⌝ }
 {
     let members = blocks::members_of(t, cells, table::field(t, role, 0));
     if order::is_sortable(members) {
@@ -118,7 +118,7 @@ fn role_within(t: &[u32], cells: &[u32], role: usize, values: Column) -> bool
 fn role_filled(t: &[u32], cells: &[u32], role: usize, values: Column) -> bool
     requires { ⌜ Walkable (now t) ⌝ }
     requires { ⌜ Reached (now cells) values ⌝ }
-    ensures { λ r. ⌜ r ≡ filled (populationOf (now (t .entry)) (now (cells .entry))) (roleOf (drop role (now (t .entry)))) (valuesIn (now (cells .entry)) values) ⌝ }
+    ensures { λ r. ⌜ r ≡ filled (populationOf (now (t .entry)) (now (cells .entry))) (wideRole (drop role (now (t .entry)))) (valuesIn (now (cells .entry)) values) ⌝ }
 {
     if table::field(t, role, 1) != 1 {
         return true;
@@ -130,18 +130,47 @@ fn role_filled(t: &[u32], cells: &[u32], role: usize, values: Column) -> bool
     columns::within(cells, members, values)
 }
 
+// Whether any column of so many values has `low` to `high` different ones: at least one, and at most all.
+fn is_loose(low: u32, high: u32, count: usize) -> bool
+    ensures { λ r. ⌜ r ≡ loose low high count ⌝ }
+{
+    if low != 1 {
+        return false;
+    }
+    if count == 0 {
+        return false;
+    }
+    count <= table::index(high)
+}
+
+// K11 of it: RMIN to RMAX different members are there. They are counted only where the limits can be broken.
+fn role_limited(t: &[u32], cells: &[u32], role: usize, values: Column) -> bool
+    requires { ⌜ Walkable (now t) ⌝ }
+    requires { ⌜ Reached (now cells) values ⌝ }
+    ensures { λ r. ⌜ r ≡ limited (wideRole (drop role (now (t .entry)))) (valuesIn (now (cells .entry)) values) ⌝ }
+{
+    let low = table::field(t, role, 3);
+    let high = table::field(t, role, 4);
+    if is_loose(low, high, values.count) {
+        return true;
+    }
+    let different = runs::different(cells, values);
+    columns::in_range(low, high, different)
+}
+
 fn role_keeps(k: u32, t: &[u32], cells: &[u32], role: usize, values: Column) -> bool
     requires { ⌜ Walkable (now t) ⌝ }
     requires { ⌜ Reached (now cells) values ⌝ }
-    ensures { λ r. ⌜ r ≡ roleTest k (populationOf (now (t .entry)) (now (cells .entry))) (roleOf (drop role (now (t .entry)))) (valuesIn (now (cells .entry)) values) ⌝ }
+    ensures { λ r. ⌜ r ≡ roleTest k (populationOf (now (t .entry)) (now (cells .entry))) (wideRole (drop role (now (t .entry)))) (valuesIn (now (cells .entry)) values) ⌝ }
 {
     match k {
         7 => role_within(t, cells, role, values),
-        _ => role_filled(t, cells, role, values),
+        8 => role_filled(t, cells, role, values),
+        _ => role_limited(t, cells, role, values),
     }
 }
 
-// K7 or K8: of each of its roles.
+// K7, K8 or K11: of each of its roles.
 fn roles_keep(k: u32, t: &[u32], cells: &[u32], pred: usize, at: usize) -> bool
     requires { ⌜ Walkable (now t) ⌝ }
     requires { ⌜ PredHere (now t) (now cells) pred at ⌝ }
@@ -166,7 +195,7 @@ fn roles_keep(k: u32, t: &[u32], cells: &[u32], pred: usize, at: usize) -> bool
 fn push_role(t: &[u32], role: usize, g: u32, out: &mut [u32], n: usize, j: u32) -> usize
     requires { ⌜ Walkable (now t) ⌝ }
     requires { ⌜ n < length (now out) ⌝ }
-    ensures { λ r. ⌜ take r (now (out .exit)) ≡ pushed (eqb (roleOf (drop role (now (t .entry))) .group) g) (take n (now (out .entry))) j ⌝ }
+    ensures { λ r. ⌜ take r (now (out .exit)) ≡ pushed (eqb (wideRole (drop role (now (t .entry))) .group) g) (take n (now (out .entry))) j ⌝ }
     ensures { λ r. ⌜ r ≤ n + 1 ⌝ }
     ensures { λ r. ⌜ length (now (out .exit)) ≡ length (now (out .entry)) ⌝ }
 {
@@ -253,6 +282,7 @@ fn pred_keeps(k: u32, t: &[u32], cells: &[u32], pred: usize, at: usize) -> bool
         6 => pred_size(t, cells, pred, at),
         7 => roles_keep(7, t, cells, pred, at),
         8 => roles_keep(8, t, cells, pred, at),
+        11 => roles_keep(11, t, cells, pred, at),
         _ => groups_keep(t, cells, pred, at),
     }
 }
@@ -336,7 +366,7 @@ fn of_types(k: u32) -> bool
     if k <= 4 {
         return true;
     }
-    10 <= k
+    k == 10
 }
 
 // The lowest type or predicate that breaks constraint k; 0 where none does.
@@ -359,7 +389,7 @@ pub fn first_broken(t: &[u32], cells: &[u32]) -> Verdict
     ensures { λ r. ⌜ answerOf r ≡ answer (diagramOf (now (t .entry))) (populationOf (now (t .entry)) (now (cells .entry))) ⌝ }
 {
     let mut k: u32 = 1;
-    let mut left: u32 = 10;
+    let mut left: u32 = 11;
     while 0 < left {
         let number = first(k, t, cells);
         if 0 < number {

@@ -16,8 +16,7 @@ use Rattle.counting.specs.Laws.Members.{each-head, each-tail}
 use Rattle.counting.specs.Laws.Distinct.{member-decides}
 use Rattle.counting.specs.Laws.Instances.{eqb-decides}
 use Rattle.sorting.specs.Search.{below, below-in, below-apart}
-use Rattle.orm.specs.Form.{roleOf}
-use Rattle.table.specs.Positions.{predOf, predLength, predsIn, roleWidth, rolesStart, rolesIn, predCount, firstPredAt, diagramOf}
+use Rattle.table.specs.Positions.{wideRole, predOf, predLength, predsIn, roleWidth, rolesStart, rolesIn, predCount, firstPredAt, diagramOf}
 use Rattle.table.specs.Laws.Walks.{role-more, role-none, preds-more, preds-none}
 use Rattle.columns.specs.declared.Column.{Column}
 use Rattle.columns.specs.Values.{spaced, valuesIn}
@@ -140,12 +139,12 @@ values-start vs marks s c = noting-start vs marks marks _
 -- ---- one role
 
 module _ (t s vs marks : List ℕ) (number role : ℕ) (c : Column) {type : ℕ} (e : type ≡ getD (drop role t) 0 0) where
-  pub mark-other : (type ≡ number → ⊥) → Noted vs marks marks (amongRole number (roleOf (drop role t)) (valuesIn s c))
+  pub mark-other : (type ≡ number → ⊥) → Noted vs marks marks (amongRole number (wideRole (drop role t)) (valuesIn s c))
   unfolding inRole amongRole
   mark-other n = record { each = λ x m. rw (← e, ne-eqb type number n, or-false) }
 
   pub mark-own : {marks′ : List ℕ} → type ≡ number → Noted vs marks marks′ (among (valuesIn s c))
-      → Noted vs marks marks′ (amongRole number (roleOf (drop role t)) (valuesIn s c))
+      → Noted vs marks marks′ (amongRole number (wideRole (drop role t)) (valuesIn s c))
   unfolding inRole amongRole among
   mark-own h q = record { each = λ x m. rw (← e, eq-eqb type number h) (q .each x m) }
 
@@ -161,14 +160,14 @@ module _ (vs marks₀ marks t s : List ℕ) (number pred at role j left : ℕ) w
   unfolding inRoles amongRoles
   roles-marked n h = noting-end vs marks₀ marks _ _ (λ y. rw (role-none left (drop role t) h)) n
 
-  pub roles-more : {w : ℕ} (c : Column) {marks′ : List ℕ} → Noted vs marks marks′ (amongRole number (roleOf (drop role t)) (valuesIn s c))
+  pub roles-more : {w : ℕ} (c : Column) {marks′ : List ℕ} → Noted vs marks marks′ (amongRole number (wideRole (drop role t)) (valuesIn s c))
       → RolesLeft → 0 < left → w ≡ predWidth (predOf (drop pred t)) → valuesIn s c ≡ column j (rowsAt w (drop at s))
       → Noting vs marks₀ marks′ (amongRoles number (j + 1) (rolesIn (left - 1) (drop (role + roleWidth) t)) (rowsAt (predWidth (predOf (drop pred t)))
       (drop at s)))
       (amongRoles number 0 (predOf (drop pred t) .roles) (rowsAt (predWidth (predOf (drop pred t))) (drop at s)))
   unfolding inRoles amongRoles amongRole
   roles-more c m n h f q =
-      noting-more vs marks₀ marks _ _ _ (λ y. inRole y number (roleOf (drop role t)) (valuesIn s c))
+      noting-more vs marks₀ marks _ _ _ (λ y. inRole y number (wideRole (drop role t)) (valuesIn s c))
       (λ y. rw (role-more t role left h, inRoles, q, f, add-one)) n m
 
 module _ (vs marks t s : List ℕ) (number pred at : ℕ) {w role : ℕ} (e : w ≡ getD (drop pred t) 2 0) (f : role ≡ pred + rolesStart) where

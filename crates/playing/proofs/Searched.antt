@@ -11,9 +11,8 @@ use Rattle.counting.specs.Lists.{mapFrom, column}
 use Rattle.counting.specs.Distinct.{member}
 use Rattle.counting.specs.Laws.Distinct.{member-append}
 use Rattle.orm.specs.Diagram.{Role, Predicate}
-use Rattle.orm.specs.Form.{roleOf}
 use Rattle.orm.specs.Constraints.{Played, played, allPlayed, valuesInRoles}
-use Rattle.table.specs.Positions.{predOf, predLength, predsIn, roleWidth, rolesStart, rolesIn, predCount, firstPredAt, diagramOf}
+use Rattle.table.specs.Positions.{wideRole, predOf, predLength, predsIn, roleWidth, rolesStart, rolesIn, predCount, firstPredAt, diagramOf}
 use Rattle.table.specs.Laws.Walks.{role-more, role-none, roles-here, preds-more, preds-none}
 use Rattle.columns.specs.declared.Column.{Column}
 use Rattle.columns.specs.Values.{valuesIn}
@@ -23,11 +22,11 @@ use Rattle.playing.specs.Playing.{inRole, inRoles, inPreds, playedBy, po
 -- ---- one role
 
 module _ (t s : List ℕ) (x number role : ℕ) (c : Column) {type : ℕ} (e : type ≡ getD (drop role t) 0 0) where
-  pub role-other : (type ≡ number → ⊥) → false ≡ inRole x number (roleOf (drop role t)) (valuesIn s c)
+  pub role-other : (type ≡ number → ⊥) → false ≡ inRole x number (wideRole (drop role t)) (valuesIn s c)
   unfolding inRole
   role-other n = rw (← e, ne-eqb type number n)
 
-  pub role-own : {b : Bool} → type ≡ number → b ≡ member eqb x (valuesIn s c) → b ≡ inRole x number (roleOf (drop role t)) (valuesIn s c)
+  pub role-own : {b : Bool} → type ≡ number → b ≡ member eqb x (valuesIn s c) → b ≡ inRole x number (wideRole (drop role t)) (valuesIn s c)
   unfolding inRole
   role-own h q = rw (← e, eq-eqb type number h) q
 
@@ -43,8 +42,8 @@ module _ (t s : List ℕ) (x number v at : ℕ) (all-roles : Bool) (role j left 
   in-roles-none i h = rw (role-none left (drop role t) h) at i
 
   module _ {b : Bool} {w : ℕ} (c : Column) (i : InRolesLeft) (h : 0 < left) (f : w ≡ v) (q : valuesIn s c ≡ column j (rowsAt w (drop at s)))
-      (e : b ≡ inRole x number (roleOf (drop role t)) (valuesIn s c)) where
-    tested : inRole x number (roleOf (drop role t)) (column j (rowsAt v (drop at s))) ≡ b
+      (e : b ≡ inRole x number (wideRole (drop role t)) (valuesIn s c)) where
+    tested : inRole x number (wideRole (drop role t)) (column j (rowsAt v (drop at s))) ≡ b
     tested = rw (← f, ← q) (sym e)
 
     pub in-roles-here : b ≡ true → true ≡ all-roles

@@ -8,8 +8,7 @@ ghost use Prim.Native.Nat.{_<_};
 ghost use lib.Dec.{eqb};
 ghost use lib.ListN.{length, drop};
 ghost use Rattle.counting.specs.Distinct.{member, within};
-ghost use Rattle.orm.specs.Form.{roleOf};
-ghost use Rattle.table.specs.Positions.{Walkable};
+ghost use Rattle.table.specs.Positions.{wideRole, Walkable};
 ghost use Rattle.columns.specs.Values.{valuesIn};
 ghost use Rattle.columns.specs.Reach.{Reached};
 ghost use Rattle.order.specs.Values.{Sortable};
@@ -21,7 +20,7 @@ ghost use Rattle.playing.specs.Marks.{marked, allMarked, Markable, Unmar
 fn in_role(t: &[u32], cells: &[u32], x: u32, number: u32, role: usize, values: Column) -> bool
     requires { ⌜ Walkable (now t) ⌝ }
     requires { ⌜ Reached (now cells) values ⌝ }
-    ensures { λ r. ⌜ r ≡ inRole x number (roleOf (drop role (now (t .entry)))) (valuesIn (now (cells .entry)) values) ⌝ }
+    ensures { λ r. ⌜ r ≡ inRole x number (wideRole (drop role (now (t .entry)))) (valuesIn (now (cells .entry)) values) ⌝ }
 {
     let player = table::field(t, role, 0);
     if player != number {
@@ -136,7 +135,7 @@ fn mark_role(
     requires { ⌜ Reached (now cells) values ⌝ }
     ensures { λ _.
         ⌜ Noted (valuesIn (now (cells .entry)) members) (now (marks .entry)) (now (marks .exit))
-        (amongRole number (roleOf (drop role (now (t .entry)))) (valuesIn (now (cells .entry)) values)) ⌝ }
+        (amongRole number (wideRole (drop role (now (t .entry)))) (valuesIn (now (cells .entry)) values)) ⌝ }
 {
     if table::field(t, role, 0) != number {
         return;

@@ -1,27 +1,34 @@
--- Rows in order, by the runs of equal keys.
+-- Rows in order, by the runs of equal keys, and values in order, by the runs of equal ones.
 use Prim.Native.Nat.{ℕ, zero, suc, _+_, _*_}
 use native.Mathlib.Nat.{suc-mul, zero-mul}
 use mathlib.Core.Path.{_≡_, refl, sym, ap, ap₂, _∙_}
 use mathlib.Core.Bool.{Bool, true, false, _||_}
 use mathlib.Core.List.{List, _∷_, map}
-use lib.Dec.{leb, ltb}
-use lib.ListN.{take, drop}
+use lib.Dec.{eqb, leb, ltb}
+use lib.ListN.{length, take, drop}
 use lib.Seq.{drop-drop}
 use Rattle.counting.specs.Lists.{same, combination, upFrom}
-use Rattle.counting.specs.Laws.Instances.{same-decides}
+use Rattle.counting.specs.Distinct.{distinct}
+use Rattle.counting.specs.Laws.Instances.{eqb-decides, same-decides}
 use Rattle.sorting.specs.Order.{sorted}
-use Rattle.sorting.specs.Lexical.{before, before-strict}
+use Rattle.sorting.specs.Lexical.{before, before-strict, ltb-strict}
 use Rattle.sorting.specs.Sorted.{map-sorted}
-use Rattle.sorting.specs.Runs.{runs, eachOccurs, runs-sorted}
+use Rattle.sorting.specs.Runs.{runs, runCount, eachOccurs, runs-sorted, run-count-sorted}
 use Rattle.orm.specs.Form.{_to_, inRange}
 use Rattle.orm.specs.Population.{rowsOf}
+use Rattle.columns.specs.declared.Column.{Column}
 use Rattle.columns.specs.declared.Rows.{Rows}
-use Rattle.columns.specs.Values.{keysOf, keysIn, occurring}
+use Rattle.columns.specs.Values.{valuesIn, keysOf, keysIn, occurring}
 use Rattle.order.specs.Rows.{keyOf, rowLess, rowOrder}
+use Rattle.order.specs.Values.{valueOf, Listed}
 
 -- The runs of equal keys of the rows with the numbers `list` are `low` to `high` long
 unfoldable pub runsBetween : ℕ → ℕ → List ℕ → Rows → List ℕ → List ℕ → Bool
 runsBetween low high s rows js list = runs same (inRange (low to high)) (map (keyOf s rows js) list)
+
+-- How many runs of equal values the numbers `list` make
+unfoldable pub valueRuns : List ℕ → Column → List ℕ → ℕ
+valueRuns s column list = runCount eqb (map (valueOf s column) list)
 
 -- Up to 16 rows, or more than 4,096
 unfoldable pub isCompared : ℕ → Bool
@@ -54,3 +61,9 @@ runs-occurring low high s rows js n e h p =
     ∙ map-sorted (rowLess s rows js) before (keyOf s rows js) (λ a b. refl) (upFrom 0 n)
     ∙ ap (sorted before) (ap (λ (m : ℕ). map (keyOf s rows js) (upFrom 0 m)) h ∙ keys-of-rows s rows js))
     ∙ runs-sorted same-decides before-strict (inRange (low to high)) (keysIn s rows js)
+
+-- Of all values in order the runs are as many as there are different ones
+pub runs-different : (s : List ℕ) (column : Column) (list : List ℕ) {n : ℕ} → Listed s column list → n ≡ valueRuns s column list
+    → n ≡ length (distinct eqb (valuesIn s column))
+unfolding valueRuns
+runs-different s column list l e = e ∙ ap (runCount eqb) (l .values) ∙ run-count-sorted eqb-decides ltb-strict (valuesIn s column)

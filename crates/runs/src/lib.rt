@@ -1,20 +1,23 @@
-// How often what rows hold in some columns occurs: of rows in order, the runs of equal ones tell.
+// How often what rows hold in some columns occurs, and how many different values a column holds: of rows in order, the runs of equal
+// ones tell.
 use columns::Column;
 use columns::Rows;
 ghost use mathlib.Core.Path.{_≡_};
-ghost use mathlib.Core.Bool.{_||_};
+ghost use mathlib.Core.Bool.{not, _||_};
 ghost use Prim.Native.Nat.{_+_, _≤_, _<_};
 ghost use lib.Dec.{eqb};
 ghost use lib.ListN.{length};
 ghost use Rattle.counting.specs.Lists.{same};
-ghost use Rattle.counting.specs.Distinct.{allDiffer};
+ghost use Rattle.counting.specs.Totals.{bit};
+ghost use Rattle.counting.specs.Distinct.{distinct, allDiffer};
 ghost use Rattle.orm.specs.Form.{inRange, _to_};
 ghost use Rattle.columns.specs.Values.{valuesIn, keysIn, occurring};
 ghost use Rattle.columns.specs.Differ.{Wide, rowsHeld};
 ghost use Rattle.columns.specs.Reach.{Keyed, Reached};
 ghost use Rattle.order.specs.Rows.{keyOf};
 ghost use Rattle.order.specs.Numbers.{Numbers};
-ghost use Rattle.runs.specs.Runs.{runsBetween, runAfter, isCompared};
+ghost use Rattle.order.specs.Values.{Sortable, Listed};
+ghost use Rattle.runs.specs.Runs.{runsBetween, runAfter, isCompared, valueRuns};
 
 // Rows x and y hold the same in the columns `js`.
 fn same_rows(s: &[u32], rows: Rows, js: &[u32], x: u32, y: u32) -> bool
@@ -148,4 +151,65 @@ pub fn differ(s: &[u32], column: Column) -> bool
         return columns::occurring(s, rows, &js, 1, 1);
     }
     occurring_sorted(s, rows, &js, 1, 1)
+}
+
+// ---- different values
+
+// 1 where a run of y begins behind x, else 0.
+fn begins(x: u32, y: u32) -> usize
+    ensures { λ r. ⌜ r ≡ bit (not (eqb x y)) ⌝ }
+    ensures { λ r. ⌜ r ≤ 1 ⌝ }
+{
+    if x == y { 0 } else { 1 }
+}
+
+// How many runs of equal values the list has.
+fn value_runs(s: &[u32], column: Column, list: &[u32]) -> usize
+    requires { ⌜ Sortable (now s) column ⌝ }
+    requires { ⌜ Listed (now s) column (now list) ⌝ }
+    ensures { λ r. ⌜ r ≡ valueRuns (now (s .entry)) column (now (list .entry)) ⌝ }
+{
+    if list.len() == 0 {
+        return 0;
+    }
+    let mut last = order::value(s, column, list[0]);
+    let mut i: usize = 1;
+    let mut n: usize = 1;
+    while i < list.len() {
+        let x = order::value(s, column, list[i]);
+        n += begins(last, x);
+        last = x;
+        i += 1;
+    }
+    n
+}
+
+// The values are put in order, in a list as long as the column.
+fn different_by(s: &[u32], column: Column, list: &mut [u32]) -> usize
+    requires { ⌜ Sortable (now s) column ⌝ }
+    requires { ⌜ length (now list) ≡ column .count ⌝ }
+    ensures { λ r. ⌜ r ≡ length (distinct eqb (valuesIn (now (s .entry)) column)) ⌝ }
+{
+    order::sort_values(s, column, list);
+    value_runs(s, column, list)
+}
+
+fn different_sorted(s: &[u32], column: Column) -> usize
+    requires { ⌜ Sortable (now s) column ⌝ }
+    ensures { λ r. ⌜ r ≡ length (distinct eqb (valuesIn (now (s .entry)) column)) ⌝ }
+{
+    let mut list = order::scratch();
+    let n = column.count;
+    different_by(s, column, &mut list[..n])
+}
+
+// How many different values the column holds.
+pub fn different(s: &[u32], column: Column) -> usize
+    requires { ⌜ Reached (now s) column ⌝ }
+    ensures { λ r. ⌜ r ≡ length (distinct eqb (valuesIn (now (s .entry)) column)) ⌝ }
+{
+    if order::is_sortable(column) {
+        return different_sorted(s, column);
+    }
+    columns::different(s, column)
 }

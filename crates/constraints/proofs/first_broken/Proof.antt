@@ -10,7 +10,7 @@ use Rattle.constraints.proofs.first_broken.Statement.{statement}
 use Rattle.constraints.proofs.first_broken.Tie as tie
 
 abbrev Inv-loop : tie.InvT-loop
-Inv-loop t cells k₀ left₀ k left = (k + left ≡ 11) × ConstraintsLeft (diagramOf t) (populationOf t cells) k left
+Inv-loop t cells k₀ left₀ k left = (k + left ≡ 12) × ConstraintsLeft (diagramOf t) (populationOf t cells) k left
 
 abbrev μ-loop : tie.MeasureT-loop
 μ-loop t cells k₀ left₀ k left = left

@@ -1,6 +1,6 @@
 -- `constraints::role_keeps` meets its contract. Each arm is one of the constraints of a role.
 -- Assumes nothing.
-use Rattle.constraints.proofs.Preds.{role-k7, role-k8}
+use Rattle.constraints.proofs.Preds.{role-k7, role-k8, role-k11}
 use borrow.Author.Needs.{needs}
 use Rattle.constraints.proofs.role_keeps.Statement.{statement}
 use Rattle.constraints.proofs.role_keeps.Tie as tie
@@ -11,5 +11,7 @@ role-keeps-spec =
     (tie.spec
     (λ c κs. search needs)
     (λ c κs. search needs)
+    (λ c κs. search needs)
     (λ c. search (needs, role-k7))
-    (λ c. search (needs, role-k8)))
+    (λ c. search (needs, role-k8))
+    (λ c. search (needs, role-k11)))

@@ -64,15 +64,15 @@ refusal-is number place round w₁ w₂ w₃ w₄ =
     (ap (λ (x : List ℕ). key ++ x)
     (append-assoc (decimal number) (44 ∷ []) (two ++ last) ∙ ap (λ (x : List ℕ). decimal number ++ 44 ∷ x) (append-assoc (decimal place) (44 ∷ []) last)))
 
-pub line-fault : {f : Fault} {n line : ℕ} {r : Settlement} → r ≡ Refused f line → n ≡ numberOf f → refusalLine n line 0 ≡ settlementLine r
+line-fault : {f : Fault} {n line : ℕ} {r : Settlement} → r ≡ Refused f line → n ≡ numberOf f → refusalLine n line 0 ≡ settlementLine r
 unfolding settlementLine
 line-fault e en = rw (e, en, settlementLine)
 
-pub line-emptied : {set round m : ℕ} {r : Settlement} → r ≡ Unsatisfiable set round → m ≡ round → refusalLine 7 set m ≡ settlementLine r
+line-emptied : {set round m : ℕ} {r : Settlement} → r ≡ Unsatisfiable set round → m ≡ round → refusalLine 7 set m ≡ settlementLine r
 unfolding settlementLine
 line-emptied e em = rw (e, em, settlementLine)
 
-pub line-short : {needed : ℕ} {r : Settlement} → r ≡ TooShort needed → refusalLine 8 needed 0 ≡ settlementLine r
+line-short : {needed : ℕ} {r : Settlement} → r ≡ TooShort needed → refusalLine 8 needed 0 ≡ settlementLine r
 unfolding settlementLine
 line-short e = rw (e, settlementLine)
 
@@ -237,11 +237,11 @@ module _ (text s s′ : List ℕ) (a : Conversion) (long : length s ≡ mostNumb
 -- ---- the input
 
 module _ (input : List ℕ) {o o′ : List ℕ} {r : ℕ} where
-  pub input-cut : 4096 < length input → Wrote o 0 (textReport (take 4096 input)) o′ r → Wrote o 0 (program input) o′ r
+  pub input-cut : 8192 < length input → Wrote o 0 (textReport (take 8192 input)) o′ r → Wrote o 0 (program input) o′ r
   input-cut h v = wrote-as v (sym (program-cut input))
 
-  pub input-whole : length input ≤ 4096 → Wrote o 0 (textReport input) o′ r → Wrote o 0 (program input) o′ r
+  pub input-whole : length input ≤ 8192 → Wrote o 0 (textReport input) o′ r → Wrote o 0 (program input) o′ r
   input-whole h v = wrote-as v (sym (program-whole input h))
 
-pub cut-count : (input : List ℕ) → 4096 < length input → 4096 ≡ length (take 4096 input)
-cut-count input h = sym (length-take-le 4096 input (omega arith))
+pub cut-count : (input : List ℕ) → 8192 < length input → 8192 ≡ length (take 8192 input)
+cut-count input h = sym (length-take-le 8192 input (omega arith))

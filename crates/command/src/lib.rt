@@ -10,6 +10,9 @@ ghost use Rattle.limits.specs.Prepared.{ValidTotals};
 ghost use Rattle.bounds.specs.Answer.{Settled};
 ghost use Rattle.command.specs.Reports.{refusalLine, settlementLine, reportOf, textReport, tableReport};
 
+// So many bytes of the input are read.
+pub const MOST_INPUT: usize = 8192;
+
 // `refused=NUMBER,PLACE,ROUND`
 pub fn push_refusal(out: &mut [u8], number: usize, place: usize, round: usize) -> usize
     ensures { λ r. ⌜ Wrote (now (out .entry)) 0 (refusalLine number place round) (now (out .exit)) r ⌝ }
@@ -143,13 +146,13 @@ fn print_input(text: &[u8], out: &mut [u8]) -> usize
     print_text(text, &mut table, &mut wide, out)
 }
 
-// Standard output of standard input, of which 4,096 bytes count, as far as the buffer has room:
+// Standard output of standard input, of which 8,192 bytes count, as far as the buffer has room:
 // 262,144 bytes are enough for any input (specs/Laws/Whole).
 pub fn run(input: &[u8], out: &mut [u8]) -> usize
     ensures { λ r. ⌜ Wrote (now (out .entry)) 0 (program (now (input .entry))) (now (out .exit)) r ⌝ }
 {
-    if 4096 < input.len() {
-        return print_input(&input[..4096], out);
+    if MOST_INPUT < input.len() {
+        return print_input(&input[..MOST_INPUT], out);
     }
     print_input(input, out)
 }

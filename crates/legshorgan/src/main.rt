@@ -1,4 +1,4 @@
-// The program: reads at most 4,096 bytes of a diagram's text on standard input, and prints the rounds,
+// The program: reads at most 8,192 bytes of a diagram's text on standard input, and prints the rounds,
 // the sizes, the types and the predicates of its population, or `refused=NUMBER,PLACE,ROUND`.
 ghost use mathlib.Core.Path.{_≡_};
 ghost use lib.ListN.{length, take, drop};
@@ -8,12 +8,16 @@ ghost use Rattle.io.specs.Counts.{Counts};
 // Enough for what is printed of any text (`program-at-most`, in crate extent).
 const SPACE: usize = 262144;
 
+fn input_space() -> [u8; command::MOST_INPUT] {
+    [0u8; command::MOST_INPUT]
+}
+
 fn output_space() -> [u8; SPACE] {
     [0u8; SPACE]
 }
 
 fn main() {
-    let mut text = io::buffer();
+    let mut text = input_space();
     let n = io::read_full(0, &mut text);
     let mut out = output_space();
     let length = report(&text[..n], &mut out);

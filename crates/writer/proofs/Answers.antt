@@ -25,11 +25,11 @@ use Rattle.writer.specs.Lines.{Counted}
 
 module _ (t : List ℕ) {types preds roles : ℕ} (counted : Counted t types preds roles) (text : List ℕ) where
   -- a buffer with room for every text has room for this one
-  pub room-most : 3603 ≤ length text → length (render (diagramOf t)) ≤ length text
+  pub room-most : 4553 ≤ length text → length (render (diagramOf t)) ≤ length text
   room-most h = omega (arith, text-length (diagramOf t) (counted .valid .formed))
 
   -- where the text ends in the scratch
-  pub text-end : {text′ : List ℕ} {n : ℕ} → length text ≡ 3603 → Wrote text 0 (render (diagramOf t)) text′ n → n ≡ length (render (diagramOf t))
+  pub text-end : {text′ : List ℕ} {n : ℕ} → length text ≡ 4553 → Wrote text 0 (render (diagramOf t)) text′ n → n ≡ length (render (diagramOf t))
   text-end long w = wrote-end w (room-most (omega arith))
 
   pub room-found : {n : ℕ} → n ≡ length (render (diagramOf t)) → n ≤ length text → length (render (diagramOf t)) ≤ length text

@@ -3,7 +3,8 @@
 // Where the lent text has room for every diagram, it is written at once. Elsewhere the length is found
 // out first, so that a call whose text is too short writes nothing. The functions below write from the
 // index `at` on and answer the index behind what they wrote.
-use lexer::lines::ROLE_FIELDS;
+use grammar::places::role_kind;
+use lexer::lines::fields_of;
 use reader::Conversion;
 use widening::Acceptance;
 ghost use mathlib.Core.Path.{_≡_};
@@ -21,55 +22,56 @@ ghost use Rattle.reader.specs.Answer.{conversionOf};
 ghost use Rattle.writer.specs.Lines.{linesText, roleText, linesToTypes, predLines, Counted};
 
 // No diagram has a longer text.
-const MOST_TEXT: usize = 3603;
+const MOST_TEXT: usize = 4553;
 
-// The line of the role at position q, with the numbers that the file has.
-fn push_role(t: &[u32], q: usize, out: &mut [u8], at: usize) -> usize
-    ensures { λ r. ⌜ Wrote (now (out .entry)) at (roleText (drop q (now (t .entry)))) (now (out .exit)) r ⌝ }
+// The line of the role at position q, with the numbers that a file of this kind has.
+fn push_role(t: &[u32], q: usize, kind: usize, out: &mut [u8], at: usize) -> usize
+    ensures { λ r. ⌜ Wrote (now (out .entry)) at (roleText kind (drop q (now (t .entry)))) (now (out .exit)) r ⌝ }
 {
-    numerals::push_line(out, at, b"role=", t, q, ROLE_FIELDS)
+    numerals::push_line(out, at, b"role=", t, q, fields_of(role_kind(kind)))
 }
 
 // The lines of the `count` roles from position q on.
-fn push_roles(t: &[u32], q: usize, count: u32, out: &mut [u8], at: usize) -> usize
+fn push_roles(t: &[u32], q: usize, count: u32, kind: usize, out: &mut [u8], at: usize) -> usize
     requires { ⌜ q + roleWidth * count ≤ length (now t) ⌝ }
-    ensures { λ r. ⌜ Wrote (now (out .entry)) at (linesText (map lineOfRole (rolesIn count (drop q (now (t .entry)))))) (now (out .exit)) r ⌝ }
+    ensures { λ r. ⌜ Wrote (now (out .entry)) at (linesText (map (lineOfRole kind) (rolesIn count (drop q (now (t .entry)))))) (now (out .exit)) r ⌝ }
 {
     let mut left = count;
     let mut p = q;
     let mut to = at;
     while 0 < left {
-        to = push_role(t, p, out, to);
+        to = push_role(t, p, kind, out, to);
         p += table::ROLE_WIDTH;
         left -= 1;
     }
     to
 }
 
-// The lines of the predicate that starts at p.
-fn push_pred(t: &[u32], p: usize, out: &mut [u8], at: usize) -> usize
+// The lines of the predicate that starts at p, in a file of this kind.
+fn push_pred(t: &[u32], p: usize, kind: usize, out: &mut [u8], at: usize) -> usize
     requires { ⌜ Walkable (now t) ⌝ }
     requires { ⌜ p + predLength (drop p (now t)) ≤ length (now t) ⌝ }
-    ensures { λ r. ⌜ Wrote (now (out .entry)) at (linesText (linesOfPred (predOf (drop p (now (t .entry)))))) (now (out .exit)) r ⌝ }
+    ensures { λ r. ⌜ Wrote (now (out .entry)) at (linesText (linesOfPred kind (predOf (drop p (now (t .entry)))))) (now (out .exit)) r ⌝ }
 {
     let roles = table::number(t, p, 2);
     let groups = table::index(table::number(t, p, 3));
     let first_group = table::groups_at(t, p);
     let a = numerals::push_line(out, at, b"pred=", t, p, 4);
-    let b = push_roles(t, table::roles_at(t, p), roles, out, a);
+    let b = push_roles(t, table::roles_at(t, p), roles, kind, out, a);
     numerals::push_lines(out, b, b"freq=", t, first_group, 2, groups)
 }
 
 // The lines of all predicates.
 fn push_preds(t: &[u32], out: &mut [u8], at: usize) -> usize
     requires { ⌜ Walkable (now t) ⌝ }
-    ensures { λ r. ⌜ Wrote (now (out .entry)) at (predLines (diagramOf (now (t .entry)) .preds)) (now (out .exit)) r ⌝ }
+    ensures { λ r. ⌜ Wrote (now (out .entry)) at (predLines (diagramOf (now (t .entry)) .kind) (diagramOf (now (t .entry)) .preds)) (now (out .exit)) r ⌝ }
 {
+    let kind = table::index(table::kind(t));
     let mut left = table::pred_count(t);
     let mut p = table::first_pred(t);
     let mut to = at;
     while 0 < left {
-        to = push_pred(t, p, out, to);
+        to = push_pred(t, p, kind, out, to);
         p = table::next_pred(t, p);
         left -= 1;
     }
@@ -78,10 +80,11 @@ fn push_preds(t: &[u32], out: &mut [u8], at: usize) -> usize
 
 // The first line, the number of types and their lines.
 fn push_types(t: &[u32], types: usize, out: &mut [u8]) -> usize
+    requires { ⌜ Walkable (now t) ⌝ }
     requires { ⌜ types ≡ length (diagramOf (now t) .types) ⌝ }
     ensures { λ r. ⌜ Wrote (now (out .entry)) 0 (linesText (linesToTypes (diagramOf (now (t .entry))))) (now (out .exit)) r ⌝ }
 {
-    let a = numerals::push_count(out, 0, b"diagram=", 1);
+    let a = numerals::push_count(out, 0, b"diagram=", table::index(table::kind(t)));
     let b = numerals::push_count(out, a, b"types=", types);
     numerals::push_lines(out, b, b"type=", t, 2, 6, types)
 }

@@ -1,4 +1,4 @@
--- `command::run` meets its contract. 4,096 bytes count.
+-- `command::run` meets its contract. 8,192 bytes count.
 -- Assumes nothing.
 use Rattle.command.proofs.Prints.{cut-count, input-cut, input-whole}
 use borrow.Author.Needs.{needs}

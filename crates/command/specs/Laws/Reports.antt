@@ -66,12 +66,12 @@ module _ (text : List ℕ) where
       ap (λ (o : Outcome Diagram). output (o >>= reportOn)) q ∙ ap₂ (λ (a b : ℕ). lineText "refused" (a ∷ b ∷ 0 ∷ [])) (sym ec) (sym ep))
       (accepted-or-fault textLine text)
 
-pub program-cut : (input : List ℕ) → program input ≡ textReport (take 4096 input)
+pub program-cut : (input : List ℕ) → program input ≡ textReport (take 8192 input)
 unfolding program reported textReport reportOn
-program-cut input = go (diagramIn textLine (take 4096 input))
+program-cut input = go (diagramIn textLine (take 8192 input))
   where
     go : (o : Outcome Diagram) → output (o >>= reportOn) ≡ output (o >>= reportOn)
     go o = refl
 
-pub program-whole : (input : List ℕ) → length input ≤ 4096 → program input ≡ textReport input
-program-whole input h = program-cut input ∙ ap textReport (take-all 4096 input h)
+pub program-whole : (input : List ℕ) → length input ≤ 8192 → program input ≡ textReport input
+program-whole input h = program-cut input ∙ ap textReport (take-all 8192 input h)

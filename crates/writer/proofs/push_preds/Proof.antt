@@ -13,11 +13,11 @@ use Rattle.writer.proofs.push_preds.Statement.{statement}
 use Rattle.writer.proofs.push_preds.Tie as tie
 
 abbrev Inv-loop : tie.InvT-loop
-Inv-loop t out₀ at left₀ p₀ to₀ out left p to = Ahead t p left × Writing out₀ at (predLines (diagramOf t .preds)) out to
-    (predLines (predsIn left (drop p t)))
+Inv-loop t out₀ at kind left₀ p₀ to₀ out left p to = Ahead t p left × Writing out₀ at (predLines (diagramOf t .kind) (diagramOf t .preds)) out to
+    (predLines kind (predsIn left (drop p t)))
 
 abbrev μ-loop : tie.MeasureT-loop
-μ-loop t out₀ at left₀ p₀ to₀ out left p to = left
+μ-loop t out₀ at kind left₀ p₀ to₀ out left p to = left
 
 pub push-preds-spec : {M : Type 1} → statement M
 push-preds-spec =
@@ -25,6 +25,8 @@ push-preds-spec =
     (tie.spec
     Inv-loop
     μ-loop
+    (λ c κs. search needs)
+    (λ c κs. search needs)
     (λ c κs. search needs)
     (λ c κs. search needs)
     (λ c. search (needs, ahead-start, preds-start))

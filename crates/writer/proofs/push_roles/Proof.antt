@@ -11,11 +11,11 @@ use Rattle.writer.proofs.push_roles.Statement.{statement}
 use Rattle.writer.proofs.push_roles.Tie as tie
 
 abbrev Inv-loop : tie.InvT-loop
-Inv-loop t q count out₀ at left₀ p₀ to₀ out left p to =
-    (p + roleWidth * left ≤ length t) × Writing out₀ at (roleLines count (drop q t)) out to (roleLines left (drop p t))
+Inv-loop t q count kind out₀ at left₀ p₀ to₀ out left p to =
+    (p + roleWidth * left ≤ length t) × Writing out₀ at (roleLines kind count (drop q t)) out to (roleLines kind left (drop p t))
 
 abbrev μ-loop : tie.MeasureT-loop
-μ-loop t q count out₀ at left₀ p₀ to₀ out left p to = left
+μ-loop t q count kind out₀ at left₀ p₀ to₀ out left p to = left
 
 pub push-roles-spec : {M : Type 1} → statement M
 push-roles-spec =

@@ -12,7 +12,7 @@ unfolding bytes
 push-text-spec =
     tie.close
     (tie.spec
-    (λ c κs. search needs)
+    (λ c κs. search (needs, valid-walkable))
     (λ c. search needs)
     (λ c κs. search needs)
     (λ c κs. search (needs, valid-walkable))

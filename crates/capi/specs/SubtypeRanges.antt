@@ -12,7 +12,7 @@ use Rattle.orm.specs.Text.{textLine, tableLine}
 use Rattle.orm.specs.Population.{Population}
 use Rattle.orm.specs.Populate.{size}
 use Rattle.orm.specs.Constraints.{membersOf}
-use Rattle.orm.specs.Outcome.{Outcome, accepted, Sized, bufferAfter, lengthOf, written, handedBack}
+use Rattle.orm.specs.Outcome.{accepted}
 use Rattle.orm.specs.Calls.{populationIn, readCall, writeCall, checkCall, populateCall}
 use Rattle.orm.specs.Meaning.{Between}
 use Rattle.reading.specs.Exact.{written as lines}
@@ -21,28 +21,14 @@ use Rattle.guarantee.specs.SubtypeRanges.{RangedSubtype, Allowed, OutOfRange, O
 use Rattle.guarantee.specs.SubtypeRanges.Before.{diagramIn01}
 use Rattle.guarantee.specs.SubtypeRanges.CallsBefore.{readCallIn01, writeCallIn01, checkCallIn01, populateCallIn01, validateCallIn01}
 use Rattle.populate.specs.Demand3.{TableOf, settledSizes}
-use Rattle.capi.specs.Answers.{numbers, roundless, verdictNumbers}
+use Rattle.capi.specs.Answers.{verdictNumbers}
 use Rattle.capi.specs.Told.{Told}
-use Rattle.capi.specs.Subtypes.{HasValidated}
+use Rattle.capi.specs.Ended.{Converted, Settled, HasValidated, RefusedWith4}
 pub mod Proof
 
--- The four numbers and the array, `before` and `after`, of reading or writing that ends so; and of check or populating
-pub record Converted (o : Outcome (List ℕ)) (four before after : List ℕ) : Type 0 where
-  pub answer : four ≡ numbers (roundless (lengthOf o))
-  pub array : after ≡ bufferAfter o before
-
-pub record Settled (o : Outcome Sized) (four before after : List ℕ) : Type 0 where
-  pub answer : four ≡ numbers (handedBack o)
-  pub array : after ≡ bufferAfter (written o) before
-
--- Refused with 4 at this line; the array is as it was
-pub record RefusedWith4 (line : ℕ) (four before after : List ℕ) : Type 0 where
-  pub answer : four ≡ 4 ∷ line ∷ 0 ∷ 0 ∷ []
-  pub kept : after ≡ before
-
 -- A pair on the type after these types that the rule doesn't allow, the line's only fault
-pub record Disallowed (n : ℕ) (ts : List ObjectType) (t : ObjectType) : Type 0 where
-  pub only : OnlyPair n ts t
+pub record Disallowed (kind n : ℕ) (ts : List ObjectType) (t : ObjectType) : Type 0 where
+  pub only : OnlyPair kind n ts t
   pub ranged : RangedSubtype t
   pub not-allowed : ¬ Allowed ts t
 
@@ -69,17 +55,17 @@ pub record SubtypeRangesTold : Type 0 where
   pub validates : (t cells : List ℕ) {four : List ℕ} (d : Diagram) → diagramIn01 tableLine t ≡ accepted d
       → HasValidated t cells four → four ≡ verdictNumbers (validateCallIn01 t cells)
   -- 'Errors: 4 keeps its place and covers the subtype pairs that this rule doesn't allow', by each call
-  pub refuses-text : {n : ℕ} {ts : List ObjectType} {t : ObjectType} → Disallowed n ts t → (rest : List ℕ) {four before after : List ℕ}
-      → Converted (readCall (lines textForm (typeLines n ts t) ++ rest) (length before)) four before after
+  pub refuses-text : {kind n : ℕ} {ts : List ObjectType} {t : ObjectType} → Disallowed kind n ts t → (rest : List ℕ) {four before after : List ℕ}
+      → Converted (readCall (lines textForm (typeLines kind n ts t) ++ rest) (length before)) four before after
       → RefusedWith4 (3 + length ts) four before after
-  pub refuses-write : {n : ℕ} {ts : List ObjectType} {t : ObjectType} → Disallowed n ts t → (rest : List ℕ) {four before after : List ℕ}
-      → Converted (writeCall (lines tableForm (typeLines n ts t) ++ rest) (length before)) four before after
+  pub refuses-write : {kind n : ℕ} {ts : List ObjectType} {t : ObjectType} → Disallowed kind n ts t → (rest : List ℕ) {four before after : List ℕ}
+      → Converted (writeCall (lines tableForm (typeLines kind n ts t) ++ rest) (length before)) four before after
       → RefusedWith4 (3 + length ts) four before after
-  pub refuses-check : {n : ℕ} {ts : List ObjectType} {t : ObjectType} → Disallowed n ts t → (rest : List ℕ) {four before after : List ℕ}
-      → Settled (checkCall (lines tableForm (typeLines n ts t) ++ rest) (length before)) four before after
+  pub refuses-check : {kind n : ℕ} {ts : List ObjectType} {t : ObjectType} → Disallowed kind n ts t → (rest : List ℕ) {four before after : List ℕ}
+      → Settled (checkCall (lines tableForm (typeLines kind n ts t) ++ rest) (length before)) four before after
       → RefusedWith4 (3 + length ts) four before after
-  pub refuses-populate : {n : ℕ} {ts : List ObjectType} {t : ObjectType} → Disallowed n ts t → (rest : List ℕ) {four before after : List ℕ}
-      → Settled (populateCall (lines tableForm (typeLines n ts t) ++ rest) (length before)) four before after
+  pub refuses-populate : {kind n : ℕ} {ts : List ObjectType} {t : ObjectType} → Disallowed kind n ts t → (rest : List ℕ) {four before after : List ℕ}
+      → Settled (populateCall (lines tableForm (typeLines kind n ts t) ++ rest) (length before)) four before after
       → RefusedWith4 (3 + length ts) four before after
-  pub refuses-validate : {n : ℕ} {ts : List ObjectType} {t : ObjectType} → Disallowed n ts t → (rest cells : List ℕ) {four : List ℕ}
-      → HasValidated (lines tableForm (typeLines n ts t) ++ rest) cells four → four ≡ 4 ∷ (3 + length ts) ∷ 0 ∷ 0 ∷ []
+  pub refuses-validate : {kind n : ℕ} {ts : List ObjectType} {t : ObjectType} → Disallowed kind n ts t → (rest cells : List ℕ) {four : List ℕ}
+      → HasValidated (lines tableForm (typeLines kind n ts t) ++ rest) cells four → four ≡ 4 ∷ (3 + length ts) ∷ 0 ∷ 0 ∷ []

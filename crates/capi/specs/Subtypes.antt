@@ -7,16 +7,12 @@ use Rattle.counting.specs.Laws.Index.{At}
 use Rattle.orm.specs.Diagram.{ObjectType, index}
 use Rattle.orm.specs.Sets.{upperOfType}
 use Rattle.orm.specs.Populate.{size}
-use Rattle.orm.specs.Calls.{validateCall}
 use Rattle.orm.specs.Meaning.{MustPlay}
 use Rattle.guarantee.specs.Subtypes.{FreeSubtype, RolelessRoot}
 use Rattle.populate.specs.Demand3.{TableOf, Making, settledSizes}
-use Rattle.capi.specs.Answers.{verdictNumbers}
 use Rattle.capi.specs.Told.{Told}
+use Rattle.capi.specs.Ended.{HasValidated}
 pub mod Proof
-
-abbrev pub HasValidated : List ℕ → List ℕ → List ℕ → Type 0
-HasValidated t cells four = four ≡ verdictNumbers (validateCall t cells)
 
 -- Of every table of a well-formed diagram
 pub record SubtypesTold : Type 0 where

@@ -9,10 +9,6 @@ use Rattle.fixpoint.specs.Limits.{unsatisfiable}
 use Rattle.orm.specs.Diagram.{ObjectType, Diagram, index}
 use Rattle.orm.specs.Sets.{upperOfType, verdict}
 use Rattle.orm.specs.Populate.{size}
-use Rattle.orm.specs.Constraints.{Answer, valid, breaks}
-use Rattle.orm.specs.Outcome.{Outcome, refused, accepted}
-use Rattle.orm.specs.Calls.{validateCall}
-use Rattle.orm.specs.Meaning.{MustPlay}
 use Rattle.orm.specs.WellFormed.{TypeForm}
 use Rattle.guarantee.specs.Guarantee.{NoPopulation, EmptiedAt, Populated}
 use Rattle.guarantee.specs.Subtypes.{FreeSubtype, RolelessRoot, TableSubtypes}
@@ -22,10 +18,11 @@ use Rattle.bounds.specs.declared.Settlement.{Settlement}
 use Rattle.bounds.specs.declared.Settlement.the-variants.{Refused, Unsatisfiable, TooShort, Accepted}
 use Rattle.populate.specs.Demand3.{TableOf, Making, Means, settledSizes}
 use Rattle.populate.specs.Tied.{table-accepted}
-use Rattle.capi.specs.Answers.{numbers, verdictNumbers}
+use Rattle.capi.specs.Answers.{numbers}
 use Rattle.capi.specs.Told.{Told}
-use Rattle.capi.specs.Accepted.{same-diagram, told-written, size-written}
-use Rattle.capi.specs.Subtypes.{HasValidated, SubtypesTold}
+use Rattle.capi.specs.Accepted.{same-diagram, told-written, type-size-written}
+use Rattle.capi.specs.Ended.Laws.{named}
+use Rattle.capi.specs.Subtypes.{SubtypesTold}
 
 -- ---- the diagram of a table
 
@@ -44,23 +41,8 @@ settles x told e {a} {type} h f =
     let z : x .diagram ≡ d = same-diagram x (w .of) in
     let standing : At type (d .types) a = subst (λ (y : Diagram). At type (y .types) a) z h in
     let above : index (type .super) ≤ a = omega (arith, each-from-at (TypeForm (d .types)) 1 (w .of .wellFormed .types) standing .above) in
-    rw (size-written w standing (le-refl a), size-written w standing above)
+    rw (type-size-written w standing (le-refl a), type-size-written w standing above)
     (said (w .of) .settles standing (subst (λ (y : Diagram). FreeSubtype y (suc a) type) z f) (w .populated))
-
--- ---- validating
-
-validated : {t : List ℕ} (cells : List ℕ) {four : List ℕ} (x : TableOf t) → HasValidated t cells four → {number : ℕ} → four ≡ 0 ∷ 0 ∷ 10 ∷ number ∷ []
-    → (a : ℕ) × (type : ObjectType) × At type (x .diagram .types) a × (number ≡ suc a) × MustPlay (x .diagram) number type
-unfolding verdictNumbers
-validated {t} cells {four} x has {number} e = said x .validated cells number (go (validateCall t cells) has)
-  where
-    go : (o : Outcome Answer) → four ≡ verdictNumbers o → o ≡ accepted (breaks 10 number)
-    go (refused k place round) q = let z : _≡_ {A = ℕ} 0 10 = cc in absurd (omega arith)
-    go (accepted valid) q = let z : _≡_ {A = ℕ} 0 10 = cc in absurd (omega arith)
-    go (accepted (breaks k m)) q =
-        let ten : k ≡ 10 = cc in
-        let own : m ≡ number = cc in
-        rw (ten, own)
 
 -- ---- a root without roles
 
@@ -93,4 +75,4 @@ roots {t} {four} {before} {after} {make} x told h r = go (told .answer) (told .n
     go (Accepted n rounds) q m = absurd (populated (m .of) (m .populated))
 
 pub subtypes-told : SubtypesTold
-subtypes-told = record { settles = settles; validated = validated; roots = roots }
+subtypes-told = record { settles = settles; validated = λ {t} cells x has {number} e. said x .validated cells number (named t cells has e); roots = roots }

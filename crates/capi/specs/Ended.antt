@@ -1,0 +1,35 @@
+-- What the contracts of the calls for C ensure, by the outcome of the call: of the four numbers, and of the array that it writes, `before` and `after`.
+use Prim.Native.Nat.{ℕ}
+use mathlib.Core.Path.{_≡_}
+use mathlib.Core.List.{List, [], _∷_, _++_}
+use lib.ListN.{length, drop}
+use Rattle.orm.specs.Outcome.{Outcome, Sized, bufferAfter, lengthOf, written, handedBack}
+use Rattle.orm.specs.Calls.{validateCall}
+use Rattle.capi.specs.Answers.{numbers, roundless, verdictNumbers}
+pub mod Laws
+
+-- Reading or writing that ends so; and check or populating
+pub record Converted (o : Outcome (List ℕ)) (four before after : List ℕ) : Type 0 where
+  pub answer : four ≡ numbers (roundless (lengthOf o))
+  pub array : after ≡ bufferAfter o before
+
+pub record Settled (o : Outcome Sized) (four before after : List ℕ) : Type 0 where
+  pub answer : four ≡ numbers (handedBack o)
+  pub array : after ≡ bufferAfter (written o) before
+
+-- Validating
+abbrev pub HasValidated : List ℕ → List ℕ → List ℕ → Type 0
+HasValidated t cells four = four ≡ verdictNumbers (validateCall t cells)
+
+-- Accepted by reading or writing: the result stands at the front of the array
+pub record Gives (result four before after : List ℕ) : Type 0 where
+  pub answer : four ≡ 0 ∷ 0 ∷ 0 ∷ length result ∷ []
+  pub front : after ≡ result ++ drop (length result) before
+
+-- Refused with this number at this line; the array is as it was
+pub record RefusedWith (number line : ℕ) (four before after : List ℕ) : Type 0 where
+  pub answer : four ≡ number ∷ line ∷ 0 ∷ 0 ∷ []
+  pub kept : after ≡ before
+
+abbrev pub RefusedWith4 : ℕ → List ℕ → List ℕ → List ℕ → Type 0
+RefusedWith4 = RefusedWith 4

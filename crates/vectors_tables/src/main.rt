@@ -108,7 +108,7 @@ fn is_checked_likewise(table: &[u32], form: Form) -> bool {
 
 // Whether writing says the same of the form, and reading the text gives the table again.
 fn is_written_likewise(table: &[u32], form: Form) -> bool {
-    let mut text = io::buffer();
+    let mut text = io::large_buffer();
     let answer = writer::write(table, &mut text);
     match answer {
         reader::Conversion::Refused { fault, line } => is_same(form, refused(fault, line)),

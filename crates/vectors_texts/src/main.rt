@@ -60,7 +60,7 @@ fn push_return(out: &mut [u8], at: usize, text: &[u8]) -> usize {
 
 // Whether writing the table gives this text.
 fn is_text_of(table: &[u32], text: &[u8]) -> bool {
-    let mut written = io::buffer();
+    let mut written = io::large_buffer();
     let answer = writer::write(table, &mut written);
     match answer {
         reader::Conversion::Refused { fault: _, line: _ } => false,

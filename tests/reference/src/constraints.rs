@@ -1,4 +1,4 @@
-//! Validating a population: the constraints K1 to K10.
+//! Validating a population: the constraints K1 to K11.
 
 use crate::diagram::{form, Diagram};
 use crate::Refusal;
@@ -110,7 +110,7 @@ fn type_breaks(d: &Diagram, population: &Population, constraint: u32, a: usize) 
     }
 }
 
-/// Whether the predicate of this index breaks constraint K5 to K9.
+/// Whether the predicate of this index breaks constraint K5 to K9 or K11.
 fn pred_breaks(d: &Diagram, population: &Population, constraint: u32, r: usize) -> bool {
     let pred = &d.preds[r];
     let rows = &population.rows[r];
@@ -127,7 +127,7 @@ fn pred_breaks(d: &Diagram, population: &Population, constraint: u32, r: usize) 
             role.mand == 1 && !within(&population.values[role.kind as usize - 1], own)
         }),
         // "K9 each occurring group combination occurs FMIN..FMAX times"
-        _ => (1..).zip(&pred.groups).any(|(g, group)| {
+        9 => (1..).zip(&pred.groups).any(|(g, group)| {
             let combination = |row: &&[u32]| -> [u32; 6] {
                 let in_group = |c: usize| pred.roles.get(c).is_some_and(|role| role.group == g);
                 std::array::from_fn(|c| if in_group(c) { row[c] } else { 0 })
@@ -136,19 +136,24 @@ fn pred_breaks(d: &Diagram, population: &Population, constraint: u32, r: usize) 
             let range = group.fmin as usize..=group.fmax as usize;
             counts.iter().any(|n| !range.contains(n))
         }),
+        // "K11: role members number RMIN..RMAX" (document 02, S-8)
+        _ => roles().any(|(role, own)| {
+            let range = role.rmin as usize..=role.rmax as usize;
+            !range.contains(&own.len())
+        }),
     }
 }
 
 /// "the lowest broken K with the lowest number that breaks it: a type's for
-/// K1 to K4 and K10, a predicate's for K5 to K9"; 9 follows 6.
+/// K1 to K4 and K10, a predicate's for K5 to K9"; "The judge .. gives K11 the
+/// predicate's number" (document 02, S-8). 9 follows 6.
 pub fn validate(table: &[u32], cells: &[u32]) -> Result<Verdict, Refusal> {
     let d = form(table)?;
     let population = cut(&d, cells)?;
-    for constraint in 1..=10 {
-        let broken = if (5..=9).contains(&constraint) {
-            (0..d.preds.len()).find(|r| pred_breaks(&d, &population, constraint, *r))
-        } else {
-            (0..d.types.len()).find(|a| type_breaks(&d, &population, constraint, *a))
+    for constraint in 1..=11 {
+        let broken = match constraint {
+            1..=4 | 10 => (0..d.types.len()).find(|a| type_breaks(&d, &population, constraint, *a)),
+            _ => (0..d.preds.len()).find(|r| pred_breaks(&d, &population, constraint, *r)),
         };
         if let Some(index) = broken {
             let number = index as u32 + 1;

@@ -22,12 +22,16 @@ impl Type {
     }
 }
 
-/// "`role=TYPE,MAND,GROUP`".
+/// "`role=TYPE,MAND,GROUP`", and "two more numbers after GROUP, RMIN and RMAX,
+/// 1..4096, the fewest and most different members in that role" (document 02,
+/// S-8).
 #[derive(Clone, Debug, PartialEq, Eq)]
 pub struct Role {
     pub kind: u32,
     pub mand: u32,
     pub group: u32,
+    pub rmin: u32,
+    pub rmax: u32,
 }
 
 /// "`freq=FMIN,FMAX`".
@@ -47,9 +51,11 @@ pub struct Predicate {
 }
 
 /// The numbers as they stand in the file: "Types and predicates count from 1
-/// in the file, groups from 1 within their predicate."
+/// in the file, groups from 1 within their predicate." The version is that of
+/// the first line, 1 or 2; in version 1 every RMIN is 1 and every RMAX 4096.
 #[derive(Clone, Debug, PartialEq, Eq)]
 pub struct Diagram {
+    pub version: u32,
     pub types: Vec<Type>,
     pub preds: Vec<Predicate>,
 }
@@ -57,7 +63,7 @@ pub struct Diagram {
 impl Diagram {
     /// "Lines in this order, no others"; `end=` "the number of role lines".
     fn each_line(&self, mut line: impl FnMut(&str, &[u32])) {
-        line("diagram", &[1]);
+        line("diagram", &[self.version]);
         line("types", &[self.types.len() as u32]);
         for t in &self.types {
             line("type", &[t.min, t.max, t.first, t.last, t.over, t.indep]);
@@ -67,7 +73,8 @@ impl Diagram {
             let (roles, groups) = (p.roles.len() as u32, p.groups.len() as u32);
             line("pred", &[p.min, p.max, roles, groups]);
             for role in &p.roles {
-                line("role", &[role.kind, role.mand, role.group]);
+                let limited = [role.kind, role.mand, role.group, role.rmin, role.rmax];
+                line("role", &limited[..role_width(self.version)]);
             }
             for group in &p.groups {
                 line("freq", &[group.fmin, group.fmax]);
@@ -98,9 +105,14 @@ impl Diagram {
         text.into_bytes()
     }
 
+    /// The roles of all predicates, in file order.
+    pub fn roles(&self) -> impl Iterator<Item = &Role> {
+        self.preds.iter().flat_map(|p| &p.roles)
+    }
+
     /// The number of roles of all predicates.
     pub fn count_roles(&self) -> usize {
-        self.preds.iter().map(|p| p.roles.len()).sum()
+        self.roles().count()
     }
 
     /// The number of groups of all predicates.
@@ -110,8 +122,7 @@ impl Diagram {
 
     /// Whether a role has this very type, which is given by its index.
     pub fn plays(&self, a: usize) -> bool {
-        let mut roles = self.preds.iter().flat_map(|p| &p.roles);
-        roles.any(|role| role.kind as usize == a + 1)
+        self.roles().any(|role| role.kind as usize == a + 1)
     }
 
     /// Whether the type has the sum limit and K10: "a non-independent subtype that
@@ -119,6 +130,16 @@ impl Diagram {
     pub fn must_play(&self, a: usize) -> bool {
         let t = &self.types[a];
         t.indep == 0 && (t.over == 0 || self.plays(a))
+    }
+}
+
+/// How many numbers a role line has: "In files that begin `diagram=2` a role
+/// line has two more"; "In `diagram=1` they .. are not written" (document 02,
+/// S-8).
+pub fn role_width(version: u32) -> usize {
+    match version {
+        1 => 3,
+        _ => 5,
     }
 }
 
@@ -132,8 +153,9 @@ pub trait Lines {
 
 /// "Ranges: the first line 1; MIN, MAX, FMIN, FMAX 1..4096; FIRST, LAST
 /// 0..999999; SUPER 0..32 (0: none); INDEP, MAND 0..1; ROLES 1..6; GROUPS
-/// 0..6; TYPE 1..32; GROUP 0..6". "`end` has no range of its own."
-const DIAGRAM: [(u32, u32); 1] = [(1, 1)];
+/// 0..6; TYPE 1..32; GROUP 0..6". "`end` has no range of its own." Document
+/// 02, S-8: "2 now allows 1..2 on the first line", "RMIN and RMAX, 1..4096".
+const DIAGRAM: [(u32, u32); 1] = [(1, 2)];
 const TYPES: [(u32, u32); 1] = [(1, 32)];
 const TYPE: [(u32, u32); 6] = [
     (1, 4096),
@@ -145,7 +167,7 @@ const TYPE: [(u32, u32); 6] = [
 ];
 const PREDS: [(u32, u32); 1] = [(1, 32)];
 const PRED: [(u32, u32); 4] = [(1, 4096), (1, 4096), (1, 6), (0, 6)];
-const ROLE: [(u32, u32); 3] = [(1, 32), (0, 1), (0, 6)];
+const ROLE: [(u32, u32); 5] = [(1, 32), (0, 1), (0, 6), (1, 4096), (1, 4096)];
 const FREQ: [(u32, u32); 2] = [(1, 4096), (1, 4096)];
 const END: [(u32, u32); 1] = [(0, u32::MAX)];
 
@@ -180,7 +202,7 @@ impl<L: Lines> Scan<L> {
 /// "The first offending line decides; within it 1, 2, 3, 4, 5, 6."
 pub fn scan(lines: impl Lines) -> Result<Diagram, Refusal> {
     let mut scan = Scan { lines, line: 0 };
-    scan.take("diagram", &DIAGRAM)?;
+    let version = scan.take("diagram", &DIAGRAM)?[0];
     let count = scan.take("types", &TYPES)?[0];
     let mut types = Vec::new();
     for _ in 0..count {
@@ -189,7 +211,8 @@ pub fn scan(lines: impl Lines) -> Result<Diagram, Refusal> {
     let (mut roles, mut groups) = (0, 0);
     let mut preds = Vec::new();
     for _ in 0..scan.take("preds", &PREDS)?[0] {
-        preds.push(scan_pred(&mut scan, count, &mut roles, &mut groups)?);
+        let pred = scan_pred(&mut scan, version, count, &mut roles, &mut groups)?;
+        preds.push(pred);
     }
     // 6: "`end` is not the number of roles".
     let end = scan.take("end", &END)?[0];
@@ -197,7 +220,11 @@ pub fn scan(lines: impl Lines) -> Result<Diagram, Refusal> {
     // "surplus after the last line is 1 at the next".
     scan.line += 1;
     scan.refuse_if(1, !scan.lines.ended())?;
-    Ok(Diagram { types, preds })
+    Ok(Diagram {
+        version,
+        types,
+        preds,
+    })
 }
 
 /// 3: "SUPER not below own number"; 4: "MIN above MAX", and a pair of FIRST
@@ -234,9 +261,12 @@ fn pair_allowed(t: &Type, types: &[Type]) -> bool {
 
 /// "At most 96 roles and 48 groups in all; the `pred` line that passes either
 /// total is out of range." 3: "TYPE above T; GROUP above GROUPS"; 4: "MIN
-/// above MAX, FMIN above FMAX"; 5: "a frequency group that no role names".
+/// above MAX, FMIN above FMAX"; 5: "a frequency group that no role names". RMIN
+/// and RMAX "in `diagram=1` .. read as 1 and 4096"; "4 also where RMIN is above
+/// RMAX" (document 02, S-8).
 fn scan_pred(
     scan: &mut Scan<impl Lines>,
+    version: u32,
     types: u32,
     all_roles: &mut u32,
     all_groups: &mut u32,
@@ -248,9 +278,18 @@ fn scan_pred(
     scan.refuse_if(4, min > max)?;
     let mut roles = Vec::new();
     for _ in 0..role_count {
-        let [kind, mand, group, ..] = scan.take("role", &ROLE)?;
+        let numbers = scan.take("role", &ROLE[..role_width(version)])?;
+        let [kind, mand, group, given @ .., _] = numbers;
+        let [rmin, rmax] = if version == 1 { [1, 4096] } else { given };
         scan.refuse_if(3, kind > types || group > group_count)?;
-        roles.push(Role { kind, mand, group });
+        scan.refuse_if(4, rmin > rmax)?;
+        roles.push(Role {
+            kind,
+            mand,
+            group,
+            rmin,
+            rmax,
+        });
     }
     let mut groups = Vec::new();
     for own in 1..=group_count {

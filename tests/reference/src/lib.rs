@@ -1,6 +1,6 @@
-//! A second solution of document 01, amended by S-2 and S-5 of document 02,
-//! written from the documents alone, to compare others with. Quoted words in
-//! comments are from document 01 where no other is named.
+//! A second solution of document 01, amended by S-2, S-5 and S-8 of document
+//! 02, written from the documents alone, to compare others with. Quoted words
+//! in comments are from document 01 where no other is named.
 
 mod constraints;
 mod diagram;

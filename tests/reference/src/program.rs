@@ -20,12 +20,18 @@ pub fn program(input: &[u8]) -> Vec<u8> {
     output.into_bytes()
 }
 
-/// "reads at most 4,096 bytes on standard input (every valid file is
-/// shorter), gives 16,000 cells". A table has at most 708 numbers (1 + 1 + 32
-/// * 6 + 1 + 32 * 4 + 96 * 3 + 48 * 2 + 1), and there are at most 208 sets.
+/// "the program reads up to 8,192 bytes" (document 02, S-8), "every valid file
+/// is shorter", and "gives 16,000 cells". There are at most 208 sets.
+///
+/// A table has at most 900 numbers, in version 2: 1 + 1 + 32 * 6 + 1 + 32 * 4 +
+/// 96 * 5 + 48 * 2 + 1. Its text has at most 4,553 bytes. Every number can have
+/// as many digits as its range allows, but for one: SUPER is below the type's
+/// own number, so that it has two digits from type 11 on only. The lines, with
+/// line feeds, have 10, 9, 10 * 33 + 22 * 34 (types), 9, 32 * 19 (predicates),
+/// 96 * 22 (roles), 48 * 15 (groups) and 7 bytes.
 fn accepted(input: &[u8]) -> Result<String, Refusal> {
-    let mut table = [0; 708];
-    let length = read(&input[..input.len().min(4096)], &mut table)?;
+    let mut table = [0; 900];
+    let length = read(&input[..input.len().min(8192)], &mut table)?;
     let table = &table[..length];
     let mut sizes = [0; 208];
     let settled = check(table, &mut sizes)?;

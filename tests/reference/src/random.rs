@@ -165,6 +165,8 @@ fn predicate(random: &mut Random, types: u32, o: &Outline, left: (usize, usize))
             kind: random.between(1, types),
             mand: u32::from(random.chance(25)),
             group,
+            rmin: 1,
+            rmax: 4096,
         });
     }
     let max = match random.below(10) {
@@ -259,7 +261,13 @@ fn ring(random: &mut Random) -> Diagram {
         let mut roles = Vec::new();
         for (kind, group) in [(own, 1), (own % count + 1, 2)] {
             let mand = u32::from(random.chance(60));
-            roles.push(Role { kind, mand, group });
+            roles.push(Role {
+                kind,
+                mand,
+                group,
+                rmin: 1,
+                rmax: 4096,
+            });
         }
         let (fmin, high) = (random.between(1, times), times + random.between(0, 1));
         let slow = Group { fmin, fmax: times };
@@ -276,7 +284,11 @@ fn ring(random: &mut Random) -> Diagram {
         let o = outline(random);
         preds.push(predicate(random, count, &o, (6, 2)));
     }
-    Diagram { types, preds }
+    Diagram {
+        version: 1,
+        types,
+        preds,
+    }
 }
 
 /// The index of the root of a type.
@@ -376,6 +388,7 @@ fn net(random: &mut Random) -> Diagram {
     };
     let (types, preds) = (many(random, o.types), many(random, o.preds));
     let mut d = Diagram {
+        version: 1,
         types: (1..=types).map(|own| kind(random, own, o.size)).collect(),
         preds: Vec::new(),
     };

@@ -3,17 +3,20 @@
 use crate::diagram::{form, Diagram};
 use crate::{lend, Refusal, Settled};
 
-/// "Floor: MIN for types and predicates, else 1."
+/// "Floor: MIN for types and predicates, else 1." RMIN becomes "the role's
+/// floor" (document 02, S-8).
 fn floors(d: &Diagram) -> Vec<u32> {
     let mut floors: Vec<u32> = d.types.iter().map(|t| t.min).collect();
     floors.extend(d.preds.iter().map(|p| p.min));
-    floors.resize(floors.len() + d.count_roles() + d.count_groups(), 1);
+    floors.extend(d.roles().map(|role| role.rmin));
+    floors.resize(floors.len() + d.count_groups(), 1);
     floors
 }
 
 /// "Starting ceiling: root, the smaller of MAX and LAST - FIRST + 1; subtype
 /// and predicate, MAX; role and group, 4096." That of a subtype which gives a
-/// range "is then also at most LAST - FIRST + 1" (document 02, S-5).
+/// range "is then also at most LAST - FIRST + 1" (document 02, S-5), and RMAX is
+/// "part of" a role's (S-8).
 fn starting(d: &Diagram) -> Vec<u32> {
     let mut ceilings = Vec::new();
     for t in &d.types {
@@ -21,7 +24,8 @@ fn starting(d: &Diagram) -> Vec<u32> {
         ceilings.push(values.map_or(t.max, |values| t.max.min(values)));
     }
     ceilings.extend(d.preds.iter().map(|p| p.max));
-    ceilings.resize(ceilings.len() + d.count_roles() + d.count_groups(), 4096);
+    ceilings.extend(d.roles().map(|role| role.rmax.min(4096)));
+    ceilings.resize(ceilings.len() + d.count_groups(), 4096);
     ceilings
 }
 

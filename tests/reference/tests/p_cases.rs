@@ -1,13 +1,15 @@
 //! The cases marked P of document 01, as far as the calls show them, and of
-//! document 02 the types without roles, S-2, and the ranges on subtypes, S-5.
+//! document 02 the types without roles, S-2, the ranges on subtypes, S-5, and
+//! the limits on roles, S-8.
 
-use reference::{check, populate, program, read, validate, Refusal, Settled, Verdict};
+use reference::{check, form, populate, program, read, validate, write};
+use reference::{Refusal, Settled, Verdict};
 
 const SAMPLE: &str = "diagram=1\ntypes=2\ntype=1,3,1,9,0,0\ntype=1,2,1,2,0,0\npreds=1\n\
     pred=1,100,2,1\nrole=1,1,1\nrole=2,0,0\nfreq=1,2\nend=2\n";
 
 fn table(text: &str) -> Vec<u32> {
-    let mut table = [0; 708];
+    let mut table = [0; 900];
     let length = read(text.as_bytes(), &mut table).unwrap();
     table[..length].to_vec()
 }
@@ -311,4 +313,220 @@ fn k3_of_a_subtype() {
     assert_eq!(broken(&chain, &[2, 1, 51, 2, 1, 51, 1, 51, 1, 1]), (3, 3));
     let zero = of_types(&["1,9,0,8,0,1", "1,9,0,0,1,1"]);
     assert_eq!(broken(&zero, &[1, 8, 1, 8, 1, 8]), (0, 0));
+}
+
+/// The sample of version 2 with these limits on its roles.
+fn limited(first: &str, second: &str) -> String {
+    let text = SAMPLE.replace("diagram=1", "diagram=2");
+    let text = text.replace("role=1,1,1", &format!("role=1,1,1,{first}"));
+    text.replace("role=2,0,0", &format!("role=2,0,0,{second}"))
+}
+
+/// The refusal of a table: number and line.
+fn refused(table: &[u32]) -> (u32, u64) {
+    form(table).map_or_else(|r| (r.number, r.place), |_| (0, 0))
+}
+
+#[test]
+fn role_lines_of_both_versions() {
+    let wide = limited("1,4096", "2,9");
+    #[rustfmt::skip]
+    let numbers = [
+        2, 2, 1, 3, 1, 9, 0, 0, 1, 2, 1, 2, 0, 0, 1, 1, 100, 2, 1, 1, 1, 1, 1, 4096, 2, 0, 0, 2, 9,
+        1, 2, 2,
+    ];
+    assert_eq!(table(&wide), numbers);
+    assert_eq!(table(SAMPLE).len(), 28);
+    for text in [SAMPLE, &wide] {
+        let mut written = vec![b'!'; 200];
+        let length = write(&table(text), &mut written).unwrap();
+        assert_eq!(&written[..length], text.as_bytes());
+    }
+    // "In `diagram=1` they read as 1 and 4096".
+    let d = form(&table(SAMPLE)).unwrap();
+    assert!(d.roles().all(|role| (role.rmin, role.rmax) == (1, 4096)));
+    let same = limited("1,4096", "1,4096");
+    assert_eq!(output(&same), output(SAMPLE));
+    assert_eq!(sizes(&same), sizes(SAMPLE));
+}
+
+#[test]
+fn refusals_of_both_versions() {
+    for (number, answer) in [
+        ("0", "refused=2,1,0\n"),
+        ("3", "refused=2,1,0\n"),
+        ("999999", "refused=2,1,0\n"),
+        ("02", "refused=1,1,0\n"),
+        ("2,2", "refused=1,1,0\n"),
+    ] {
+        let text = SAMPLE.replace("diagram=1", &format!("diagram={number}"));
+        assert_eq!(output(&text), answer, "{number}");
+    }
+    // As many numbers as the first line says.
+    let three = SAMPLE.replace("diagram=1", "diagram=2");
+    assert_eq!(output(&three), "refused=1,7,0\n");
+    let five = limited("1,9", "1,9").replace("diagram=2", "diagram=1");
+    assert_eq!(output(&five), "refused=1,7,0\n");
+    for (first, second, answer) in [
+        ("1", "1,9", "refused=1,7,0\n"),
+        ("1,9,1", "1,9", "refused=1,7,0\n"),
+        ("1,9", "1", "refused=1,8,0\n"),
+        ("01,9", "1,9", "refused=1,7,0\n"),
+        ("1,9", "0,9", "refused=2,8,0\n"),
+        ("1,9", "1,0", "refused=2,8,0\n"),
+        ("4097,4097", "1,9", "refused=2,7,0\n"),
+        ("1,4097", "1,9", "refused=2,7,0\n"),
+        ("2,1", "1,9", "refused=4,7,0\n"),
+        ("1,9", "4096,4095", "refused=4,8,0\n"),
+    ] {
+        assert_eq!(output(&limited(first, second)), answer, "{first} {second}");
+    }
+    // Within a line 1, 2, 3, 4.
+    for (line, number) in [
+        ("role=3,1,1,9,8,7", 1),
+        ("role=3,1,1,4097,1", 2),
+        ("role=3,1,1,9,8", 3),
+        ("role=1,1,2,9,8", 3),
+        ("role=1,1,1,9,8", 4),
+    ] {
+        let text = limited("1,9", "1,9").replace("role=1,1,1,1,9", line);
+        assert_eq!(output(&text), format!("refused={number},7,0\n"), "{line}");
+    }
+    // A role's 4 stands before a fault of a later line.
+    let later = limited("2,1", "1,9").replace("freq=1,2", "freq=3,2");
+    assert_eq!(output(&later), "refused=4,7,0\n");
+}
+
+#[test]
+fn tables_of_both_versions() {
+    let (narrow, wide) = (table(SAMPLE), table(&limited("1,9", "1,9")));
+    assert_eq!(refused(&wide), (0, 0));
+    for first in [0, 3, u32::MAX] {
+        assert_eq!(refused(&[&[first], &wide[1..]].concat()), (2, 1));
+    }
+    // Cut into five, the sample's roles are 1,1,1,2,0 and 0,1,2,2.
+    assert_eq!(refused(&[&[2], &narrow[1..]].concat()), (2, 7));
+    // Cut into three, the roles are 1,1,1 and 1,9,2, the MAND of 9.
+    assert_eq!(refused(&[&[1], &wide[1..]].concat()), (2, 8));
+    // A line cut short: the first role line has the numbers 19 to 23.
+    assert_eq!(refused(&wide[..23]), (1, 7));
+    assert_eq!(refused(&wide[..24]), (1, 8));
+    assert_eq!(refused(&[wide, vec![0]].concat()), (1, 11));
+}
+
+#[test]
+fn rmax_is_part_of_the_starting_ceiling() {
+    // Round 1 lowers role 1 and type 2, round 2 the group, round 3 the rows.
+    let one = limited("1,4096", "1,1");
+    let expected = "rounds=4\nsize=3\nsize=1\nsize=3\nsize=3\nsize=1\nsize=3\n\
+        type=1,2,3\ntype=1\npred=1\nrow=1,1\nrow=2,1\nrow=3,1\n";
+    assert_eq!(output(&one), expected);
+    // An independent type keeps the members that are in no role.
+    let free = one.replace("type=1,2,1,2,0,0", "type=1,2,1,2,0,1");
+    assert_eq!(sizes(&free), (4, vec![3, 2, 3, 3, 1, 3]));
+    // A mandatory role bounds its type from round 1 on, also below its MIN. The
+    // group is lowered in round 1 too, a round earlier than without the limit.
+    let two = limited("1,2", "1,4096");
+    assert_eq!(sizes(&two), (3, vec![2, 2, 4, 2, 2, 2]));
+    let three = two.replace("type=1,3,1,9,0,0", "type=3,3,1,9,0,0");
+    assert_eq!(output(&three), "refused=7,1,1\n");
+    // As many as settle without a limit: the same sizes, in a round less.
+    assert_eq!(sizes(&limited("1,3", "1,2")), (3, sizes(SAMPLE).1));
+}
+
+#[test]
+fn rmin_is_the_floor() {
+    assert_eq!(output(&limited("3,4096", "2,2")), output(SAMPLE));
+    // Each role is lowered to its type in round 1; the lowest set is named.
+    assert_eq!(output(&limited("4,4096", "1,4096")), "refused=7,4,1\n");
+    assert_eq!(output(&limited("1,4096", "3,3")), "refused=7,5,1\n");
+    assert_eq!(output(&limited("4,4", "3,3")), "refused=7,4,1\n");
+    // At least 3 members of role 1, and at most 2 rows.
+    let rows = limited("3,3", "1,2").replace("pred=1,100,2,1", "pred=1,2,2,1");
+    assert_eq!(output(&rows), "refused=7,4,1\n");
+    // Exactly as many as settle.
+    assert_eq!(sizes(&limited("3,3", "2,2")), (3, sizes(SAMPLE).1));
+}
+
+#[test]
+fn k11_counts_the_different_members() {
+    // The sample's population: roles of 3 and 2 members in 6 rows.
+    let cells = sample_cells(&[], &[]);
+    for (first, second, answer) in [
+        ("3,3", "2,2", (0, 0)),
+        ("1,3", "1,2", (0, 0)),
+        ("3,4096", "2,4096", (0, 0)),
+        ("1,2", "1,4096", (11, 1)),
+        ("4,4096", "1,4096", (11, 1)),
+        ("1,4096", "1,1", (11, 1)),
+        ("1,4096", "3,4096", (11, 1)),
+        ("6,6", "6,6", (11, 1)),
+    ] {
+        let text = limited(first, second);
+        assert_eq!(broken(&text, &cells), answer, "{first} {second}");
+    }
+}
+
+#[test]
+fn k11_names_the_lowest_predicate() {
+    let text = limited("1,4096", "1,4096").replace("preds=1\n", "preds=2\n");
+    let more = |limits| format!("pred=1,9,1,0\nrole=2,0,0,{limits}\nend=3\n");
+    let second = text.replace("end=2\n", &more("2,2"));
+    assert_eq!(broken(&second, &sample_cells(&[], &[2, 1, 2])), (0, 0));
+    // The second predicate, of which it is the third role of the file.
+    assert_eq!(broken(&second, &sample_cells(&[], &[1, 1])), (11, 2));
+    let both = second.replace("role=2,0,0,1,4096", "role=2,0,0,1,1");
+    assert_eq!(broken(&both, &sample_cells(&[], &[1, 1])), (11, 1));
+}
+
+#[test]
+fn k11_comes_last() {
+    // Member 2 of type 2 is in no role, and role 2 has one member of two.
+    let rows = [3, 1, 1, 2, 1, 3, 1];
+    let cells = [&[3, 1, 2, 3, 2, 1, 2], &rows[..]].concat();
+    let text = limited("1,4096", "2,2");
+    assert_eq!(broken(&text, &cells), (10, 2));
+    let free = text.replace("type=1,2,1,2,0,0", "type=1,2,1,2,0,1");
+    assert_eq!(broken(&free, &cells), (11, 1));
+    // K8 and K9, of the same predicate, come before too.
+    let cells = [3, 1, 2, 3, 2, 1, 2, 2, 1, 1, 2, 2];
+    assert_eq!(broken(&limited("3,3", "1,1"), &cells), (8, 1));
+    // No rows are K6, of both versions.
+    let none = [3, 1, 2, 3, 2, 1, 2, 0];
+    assert_eq!(broken(SAMPLE, &none), (6, 1));
+    assert_eq!(broken(&limited("1,4096", "1,4096"), &none), (6, 1));
+}
+
+/// Every number of as many digits as it can have.
+fn longest(version: u32) -> String {
+    let mut text = format!("diagram={version}\ntypes=32\n");
+    text += "type=4096,4096,999999,999999,0,0\n";
+    for own in 2..=32 {
+        text += &format!("type=4096,4096,999999,999999,{},0\n", own - 1);
+    }
+    text += "preds=32\n";
+    let limits = if version == 2 { ",4096,4096" } else { "" };
+    for k in 0..32 {
+        let groups = 1 + k % 2;
+        text += &format!("pred=4096,4096,3,{groups}\n");
+        for group in [1, groups, 1] {
+            text += &format!("role=32,1,{group}{limits}\n");
+        }
+        text += &"freq=4096,4096\n".repeat(groups);
+    }
+    text + "end=96\n"
+}
+
+#[test]
+fn the_longest_texts_and_tables() {
+    for (version, bytes, numbers) in [(1, 3593, 708), (2, 4553, 900)] {
+        let text = longest(version);
+        assert_eq!(text.len(), bytes);
+        assert_eq!(table(&text).len(), numbers);
+        let mut written = vec![0; bytes];
+        assert_eq!(write(&table(&text), &mut written), Ok(bytes));
+        assert_eq!(written, text.as_bytes());
+        // Read to its end by the program: the first type has one value.
+        assert_eq!(output(&text), "refused=7,1,0\n");
+    }
 }

@@ -84,7 +84,7 @@ fn main() {
         std::process::exit(2);
     };
     let text = std::fs::read(file).expect("the file is readable");
-    let mut table = vec![0; 708];
+    let mut table = vec![0; 900];
     both!(repetitions, read, &text, table.clone());
     let read = reference::read(&text, &mut table);
     let Ok(length) = read else {

@@ -5,6 +5,6 @@ use std::io::{Read, Write};
 
 fn main() -> std::io::Result<()> {
     let mut input = Vec::new();
-    std::io::stdin().take(4096).read_to_end(&mut input)?;
+    std::io::stdin().take(8192).read_to_end(&mut input)?;
     std::io::stdout().write_all(&reference::program(&input))
 }

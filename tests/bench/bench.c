@@ -61,11 +61,13 @@ static const struct row rows[] = {
     {"full", VALIDATE, CELLS}, {"full", WRITE, BYTES},     {"slow", READ, BYTES},       {"slow", CHECK, ROUNDS},
     {"table1", READ, BYTES},   {"table1", POPULATE, CELLS}, {"table1", VALIDATE, CELLS},
     {"rows", POPULATE, CELLS}, {"rows", VALIDATE, CELLS},  {"lowered", CHECK, ROUNDS},
+    {"limited", READ, BYTES},  {"limited", CHECK, ROUNDS}, {"limited", POPULATE, CELLS}, {"limited", VALIDATE, CELLS},
+    {"limited", WRITE, BYTES},
 };
 
 enum { ROW_COUNT = sizeof rows / sizeof *rows };
 
-static uint8_t text[4096];
+static uint8_t text[8192];
 static size_t text_length, table_length, cells_length;
 static uint32_t table[LEGSHORGAN_MOST_TABLE], cells[LEGSHORGAN_MOST_CELLS];
 

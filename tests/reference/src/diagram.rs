@@ -133,7 +133,7 @@ impl Diagram {
     }
 }
 
-/// How many numbers a role line has: "In files that begin `diagram=2` a role
+/// How many numbers a role line has, in any version but 1 five: "In files that begin `diagram=2` a role
 /// line has two more"; "In `diagram=1` they .. are not written" (document 02,
 /// S-8).
 pub fn role_width(version: u32) -> usize {

@@ -15,7 +15,7 @@ pub mod random;
 pub mod foreign;
 
 pub use constraints::{validate, Verdict};
-pub use diagram::{form, Diagram, Group, Predicate, Role, Type};
+pub use diagram::{form, role_width, Diagram, Group, Predicate, Role, Type};
 pub use fill::populate;
 pub use program::program;
 pub use sizes::{check, settle};

@@ -1,7 +1,7 @@
 //! Seeded random inputs: diagrams, damaged texts, tables and cells, and
 //! lengths of lent space.
 
-use crate::{settle, Diagram, Group, Predicate, Role, Type};
+use crate::{role_width, settle, Diagram, Group, Predicate, Role, Type};
 
 /// A splitmix generator: the same seed gives the same inputs.
 pub struct Random {
@@ -184,14 +184,25 @@ fn predicate(random: &mut Random, types: u32, o: &Outline, left: (usize, usize))
 }
 
 /// Most floors are 1; others are raised to the settled size, or one above it,
-/// and some ceilings are lowered to the settled size.
+/// and some ceilings are lowered to the settled size. In version 2 those of
+/// roles too.
 fn tighten(random: &mut Random, d: &mut Diagram) {
     let Ok((_, sizes)) = settle(d) else { return };
     let tight = random.pick(&[0, 0, 20, 60]);
     let passed = random.below(sizes.len() * 2);
-    let types = d.types.iter_mut().map(|t| (&mut t.min, &mut t.max));
-    let preds = d.preds.iter_mut().map(|p| (&mut p.min, &mut p.max));
-    for (i, ((min, max), size)) in types.chain(preds).zip(sizes).enumerate() {
+    let mut bounds: Vec<_> = (d.types.iter_mut())
+        .map(|t| (&mut t.min, &mut t.max))
+        .collect();
+    let mut limits = Vec::new();
+    for pred in &mut d.preds {
+        bounds.push((&mut pred.min, &mut pred.max));
+        let roles = pred.roles.iter_mut();
+        limits.extend(roles.map(|role| (&mut role.rmin, &mut role.rmax)));
+    }
+    if d.version == 2 {
+        bounds.extend(limits);
+    }
+    for (i, ((min, max), size)) in bounds.into_iter().zip(sizes).enumerate() {
         if random.chance(tight) {
             *min = match random.chance(70) {
                 true => size,
@@ -362,7 +373,58 @@ fn shorten_range(random: &mut Random, d: &mut Diagram) {
     }
 }
 
-/// A valid diagram.
+/// The sizes of roles as they settle, as many of them as there are, or RMAX
+/// where a set is emptied.
+fn role_sizes(d: &Diagram) -> Vec<u32> {
+    let first = d.types.len() + d.preds.len();
+    let settled = settle(d).map_or(Vec::new(), |(_, sizes)| sizes[first..].to_vec());
+    let of = |(i, role): (usize, &Role)| settled.get(i).map_or(role.rmax, |size| *size);
+    d.roles().enumerate().map(of).collect()
+}
+
+/// Every role of the diagram, to be changed, in file order.
+fn roles_mut(d: &mut Diagram) -> impl Iterator<Item = &mut Role> {
+    d.preds.iter_mut().flat_map(|pred| &mut pred.roles)
+}
+
+/// Version 2, with limits on some roles, or none: RMAX about the size that the
+/// role settles at without it, at the ends of its range, or any; then RMIN about
+/// the size that the role settles at with it.
+fn add_limits(random: &mut Random, d: &mut Diagram) {
+    d.version = 2;
+    let share = random.pick(&[0, 10, 30, 30, 60]);
+    let sizes = role_sizes(d);
+    for (role, size) in roles_mut(d).zip(sizes) {
+        if random.chance(share) {
+            let high = match random.below(10) {
+                0..2 => size,
+                2..4 => size.saturating_sub(1),
+                4 => size + 1,
+                5..7 => random.between(1, size),
+                7 => random.between(size, 4096),
+                8 => random.pick(&[4095, 4096]),
+                _ => random.pick(&[1, 2, 12]),
+            };
+            role.rmax = high.clamp(1, 4096);
+        }
+    }
+    // Most stay satisfiable: one above the size is rare.
+    let sizes = role_sizes(d);
+    for (role, size) in roles_mut(d).zip(sizes) {
+        if random.chance(share) {
+            let low = match random.below(60) {
+                0 => size + 1,
+                1 => role.rmax,
+                2..25 => size,
+                25..35 => size.saturating_sub(1),
+                _ => random.between(1, size),
+            };
+            role.rmin = low.clamp(1, role.rmax);
+        }
+    }
+}
+
+/// A valid diagram, in half of the cases of version 2.
 pub fn diagram(random: &mut Random) -> Diagram {
     let mut d = match random.chance(5) {
         true => ring(random),
@@ -370,6 +432,9 @@ pub fn diagram(random: &mut Random) -> Diagram {
     };
     if random.chance(50) {
         add_ranges(random, &mut d);
+    }
+    if random.chance(50) {
+        add_limits(random, &mut d);
     }
     tighten(random, &mut d);
     if random.chance(4) {
@@ -483,6 +548,97 @@ fn faulty_range(random: &mut Random, d: &mut Diagram) {
     }
 }
 
+/// A role's limits that are not allowed, or only just, in some cases with
+/// another fault of the same line, or a first line of 0 to 3.
+fn faulty_limits(random: &mut Random, d: &mut Diagram) {
+    if d.version == 1 {
+        add_limits(random, d);
+    }
+    let (types, count) = (d.types.len() as u32, d.count_roles());
+    let at = random.below(count);
+    let groups = d.preds.iter().flat_map(|pred| {
+        let groups = pred.groups.len() as u32;
+        pred.roles.iter().map(move |_| groups)
+    });
+    let groups = groups.collect::<Vec<u32>>()[at];
+    let Some(role) = roles_mut(d).nth(at) else {
+        return;
+    };
+    match random.below(16) {
+        // RMIN above RMAX by one, or by any number; not above.
+        0..2 => (role.rmin, role.rmax) = (role.rmax.min(4095) + 1, role.rmax.min(4095)),
+        2 => role.rmax = random.between(1, role.rmin),
+        3 => role.rmin = random.between(role.rmax, 4096),
+        4 => (role.rmin, role.rmax) = (role.rmax, role.rmin),
+        5 => role.rmin = role.rmax,
+        // At and outside the ends of the range.
+        6 => role.rmin = random.pick(&[0, 1, 4096, 4097]),
+        7 => role.rmax = random.pick(&[0, 1, 4096, 4097]),
+        8 => role.rmax = random.between(4095, 5000),
+        9 => (role.rmin, role.rmax) = random.pick(&[(0, 0), (4097, 4097), (4096, 4096), (1, 1)]),
+        // With what is not there: 3 before 4.
+        10 => (role.kind, role.rmin, role.rmax) = (random.between(types, 33), 9, 8),
+        11 => (role.group, role.rmin, role.rmax) = (random.between(groups, 7), 4096, 1),
+        12 => (role.mand, role.rmin, role.rmax) = (random.between(0, 2), 2, 1),
+        _ => d.version = random.pick(&[0, 0, 1, 2, 3, 3]),
+    }
+}
+
+/// Another first line, by its number alone: role lines are too long or too
+/// short for it where it is 1 or 2.
+fn other_version(random: &mut Random, version: u32) -> u32 {
+    match random.chance(70) {
+        true => 3 - version,
+        false => random.pick(&[0, 3]),
+    }
+}
+
+/// A text whose first line or one of whose role lines is of the other version.
+fn misfit_text(random: &mut Random, d: &Diagram) -> Vec<u8> {
+    let mut text = d.text();
+    if random.chance(35) {
+        // The digit of `diagram=1`.
+        text[8] = b'0' + other_version(random, d.version) as u8;
+        return text;
+    }
+    let lines = spans(&text);
+    let roles = |(start, _): &(usize, usize)| text[*start..].starts_with(b"role");
+    let roles: Vec<(usize, usize)> = lines.into_iter().filter(roles).collect();
+    let (start, length) = random.pick(&roles);
+    let line = String::from_utf8_lossy(&text[start..start + length - 1]).into_owned();
+    let mut numbers: Vec<&str> = line.split(',').collect();
+    let width = match random.chance(60) {
+        true => 8 - role_width(d.version),
+        false => random.pick(&[1, 2, 3, 4, 5, 6]),
+    };
+    numbers.resize(width, random.pick(&["1", "4096"]));
+    text.splice(start..start + length - 1, numbers.join(",").into_bytes());
+    text
+}
+
+/// The same of a table.
+fn misfit_table(random: &mut Random, d: &Diagram) -> Vec<u32> {
+    let mut table = d.table();
+    if random.chance(50) {
+        table[0] = other_version(random, d.version);
+        return table;
+    }
+    // Where the numbers of a role line end.
+    let mut at = 3 + 6 * d.types.len();
+    let (r, width) = (random.below(d.preds.len()), role_width(d.version));
+    for pred in &d.preds[..r] {
+        at += 4 + width * pred.roles.len() + 2 * pred.groups.len();
+    }
+    at += 4 + width * (1 + random.below(d.preds[r].roles.len()));
+    match random.below(4) {
+        0 => drop(table.drain(at - 2..at)),
+        1 => drop(table.splice(at..at, [1, 4096])),
+        2 => drop(table.remove(at - 1)),
+        _ => table.truncate(at - random.below(3)),
+    }
+    table
+}
+
 /// A diagram with a fault that one line can have.
 pub fn faulty_diagram(random: &mut Random) -> Diagram {
     let mut d = diagram(random);
@@ -493,7 +649,7 @@ pub fn faulty_diagram(random: &mut Random) -> Diagram {
     let group = random.below(d.preds[at].groups.len().max(1));
     let t = &mut d.types[own];
     let p = &mut d.preds[at];
-    match random.below(18) {
+    match random.below(24) {
         0 => t.over = random.between(own as u32 + 1, 33),
         1 => t.max = random.between(0, t.min),
         2 => (t.first, t.last) = (t.last + 1, t.first),
@@ -508,7 +664,8 @@ pub fn faulty_diagram(random: &mut Random) -> Diagram {
         }
         8 | 9 => p.groups.push(Group { fmin: 1, fmax: 2 }),
         10 => totals(random, &mut d),
-        12.. => faulty_range(random, &mut d),
+        12..18 => faulty_range(random, &mut d),
+        18.. => faulty_limits(random, &mut d),
         _ => {
             let more = d.types[own].clone();
             d.types
@@ -610,11 +767,16 @@ fn damage_text(random: &mut Random, text: &mut Vec<u8>) {
     }
 }
 
-/// A valid text, a text of a faulty diagram, or a damaged one.
+/// A valid text, a text of a faulty diagram, one of two versions, or a damaged
+/// one.
 pub fn text(random: &mut Random) -> Vec<u8> {
-    match random.below(10) {
+    match random.below(11) {
         0..3 => diagram(random).text(),
         3..5 => faulty_diagram(random).text(),
+        5 => {
+            let d = diagram(random);
+            misfit_text(random, &d)
+        }
         _ => {
             let mut text = diagram(random).text();
             for _ in 0..random.pick(&[1, 1, 1, 2, 3]) {
@@ -663,12 +825,16 @@ fn damage_numbers(random: &mut Random, numbers: &mut Vec<u32>) {
     }
 }
 
-/// A table of a faulty diagram, or a damaged table.
+/// A table of a faulty diagram, one of two versions, or a damaged table.
 pub fn damaged_table(random: &mut Random) -> Vec<u32> {
     if random.chance(40) {
         return faulty_diagram(random).table();
     }
-    let mut table = diagram(random).table();
+    let d = diagram(random);
+    if random.chance(15) {
+        return misfit_table(random, &d);
+    }
+    let mut table = d.table();
     for _ in 0..random.pick(&[1, 1, 1, 2, 4]) {
         damage_numbers(random, &mut table);
     }
@@ -708,6 +874,12 @@ impl Parts {
                 cells.for_each(|(role, value)| change(role.kind as usize - 1, value));
             }
         }
+    }
+
+    /// The order of values and rows is free.
+    fn shuffle(&mut self, random: &mut Random) {
+        self.types.iter_mut().for_each(|v| random.shuffle(v));
+        self.preds.iter_mut().for_each(|v| random.shuffle(v));
     }
 
     fn cells(&self) -> Vec<u32> {
@@ -808,6 +980,61 @@ fn replace(random: &mut Random, d: &Diagram, parts: &mut Parts) {
     }
 }
 
+/// A member of a role becomes another of the same role, wherever it stands in
+/// that role, or a member of the type that is not in the role takes the place of
+/// one of two or more cells.
+fn merge(random: &mut Random, d: &Diagram, parts: &mut Parts) {
+    let r = random.below(d.preds.len());
+    let column = random.below(d.preds[r].roles.len());
+    let members = &parts.types[d.preds[r].roles[column].kind as usize - 1];
+    let rows = &mut parts.preds[r];
+    if rows.is_empty() {
+        return;
+    }
+    let (one, other) = (random.below(rows.len()), random.below(rows.len()));
+    let (member, into) = (rows[one][column], rows[other][column]);
+    if random.chance(60) {
+        for row in rows.iter_mut().filter(|row| row[column] == member) {
+            row[column] = into;
+        }
+        rows.sort();
+        rows.dedup();
+    } else {
+        let absent = |v: &&u32| rows.iter().all(|row| row[column] != **v);
+        if let Some(value) = members.iter().find(absent) {
+            rows[one][column] = *value;
+        }
+    }
+}
+
+/// Limits that a diagram's population just meets, or just breaks, on some roles
+/// of version 2, and the population in another order. The diagram stays valid.
+pub fn limit_beside(random: &mut Random, d: &mut Diagram, filled: &[u32]) -> Vec<u32> {
+    let mut parts = Parts::new(d, filled);
+    for _ in 0..random.pick(&[1, 1, 1, 2, 3]) {
+        let r = random.below(d.preds.len());
+        let column = random.below(d.preds[r].roles.len());
+        let mut values: Vec<u32> = parts.preds[r].iter().map(|row| row[column]).collect();
+        values.sort_unstable();
+        values.dedup();
+        let (size, rows) = (values.len() as u32, parts.preds[r].len() as u32);
+        let role = &mut d.preds[r].roles[column];
+        let (low, high) = match random.below(8) {
+            0..2 => (role.rmin, size.saturating_sub(1)),
+            2..4 => (size + 1, role.rmax),
+            4 => (size, size),
+            5 => (size + 1, size + random.between(1, 9)),
+            6 => (random.between(1, size), size.saturating_sub(1)),
+            // As the number of rows would have it.
+            _ => (rows, rows),
+        };
+        role.rmax = high.clamp(1, 4096);
+        role.rmin = low.clamp(1, role.rmax);
+    }
+    parts.shuffle(random);
+    parts.cells()
+}
+
 /// One change to a population that keeps its sizes true.
 fn change(random: &mut Random, d: &Diagram, parts: &mut Parts) {
     let (a, r) = (random.below(d.types.len()), random.below(d.preds.len()));
@@ -827,7 +1054,7 @@ fn change(random: &mut Random, d: &Diagram, parts: &mut Parts) {
     let values = &mut parts.types[a];
     let rows = &mut parts.preds[r];
     let count = rows.len();
-    match random.below(31) {
+    match random.below(35) {
         // A member more, a member fewer, a member changed, one twice, one in no role,
         // one outside its range.
         0..3 => values.push(match values.last() {
@@ -849,7 +1076,8 @@ fn change(random: &mut Random, d: &Diagram, parts: &mut Parts) {
             values[at] = base;
         }
         24..27 => replace(random, d, parts),
-        27.. => exchange(random, d, parts),
+        27..31 => exchange(random, d, parts),
+        31.. => merge(random, d, parts),
         // A row twice, rows fewer, a row more, a cell changed.
         6 if count > 0 => {
             let (from, to) = (random.below(count), random.below(count));
@@ -949,9 +1177,7 @@ pub fn cells(random: &mut Random, d: &Diagram, filled: &[u32]) -> Vec<u32> {
         rename(random, d, &mut parts);
     }
     if how < 40 {
-        // The order of values and rows is free.
-        parts.types.iter_mut().for_each(|v| random.shuffle(v));
-        parts.preds.iter_mut().for_each(|v| random.shuffle(v));
+        parts.shuffle(random);
     }
     match how {
         15..20 | 30..40 => (),

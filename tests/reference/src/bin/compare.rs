@@ -169,7 +169,7 @@ impl Compare {
     }
 
     fn validate(&mut self, random: &mut Random) {
-        let d = random::diagram(random);
+        let mut d = random::diagram(random);
         let mut table = d.table();
         let filled = match reference::populate(&table, &mut []) {
             Err(refusal) if refusal.number == 8 => {
@@ -178,7 +178,15 @@ impl Compare {
             }
             _ => Vec::new(),
         };
-        let cells = random::cells(random, &d, &filled);
+        let mut limited = Vec::new();
+        if d.version == 2 && !filled.is_empty() && random.chance(40) {
+            limited = random::limit_beside(random, &mut d, &filled);
+            table = d.table();
+        }
+        let cells = match !limited.is_empty() && random.chance(50) {
+            true => limited,
+            false => random::cells(random, &d, &filled),
+        };
         if random.chance(5) {
             table = random::damaged_table(random);
         }

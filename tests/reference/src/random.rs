@@ -424,8 +424,85 @@ fn add_limits(random: &mut Random, d: &mut Diagram) {
     }
 }
 
+/// As many types, predicates, roles and groups as there can be, mostly of
+/// version 2, and numbers of as many digits as they can have. Few have a
+/// population, with a thousand members or more in every type and role.
+fn longest(random: &mut Random) -> Diagram {
+    let (sound, chain) = (random.chance(20), random.chance(60));
+    let pair = |random: &mut Random| {
+        let low = if sound {
+            1000
+        } else {
+            random.between(1000, 4096)
+        };
+        (low, random.between(low, if sound { 1100 } else { 4096 }))
+    };
+    let mut types: Vec<Type> = Vec::new();
+    for own in 0..32 {
+        let (min, max) = pair(random);
+        let (first, most) = match types.last() {
+            Some(t) if chain => (t.first, t.last),
+            _ => (random.between(100_000, 900_000), 999_999),
+        };
+        types.push(Type {
+            min,
+            max,
+            first,
+            last: if sound {
+                most
+            } else {
+                random.between(first, most)
+            },
+            over: if chain { own } else { 0 },
+            indep: 1,
+        });
+    }
+    let mut preds = Vec::new();
+    for k in 0..32 {
+        let mut named = [1, 1 + k % 2, random.between(1, 1 + k % 2)];
+        random.shuffle(&mut named);
+        let role = |group: u32| {
+            let (rmin, rmax) = pair(random);
+            Role {
+                kind: random.between(10, 32),
+                mand: u32::from(!sound && random.chance(50)),
+                group,
+                rmin,
+                rmax,
+            }
+        };
+        let roles = named.map(role).to_vec();
+        let group = |_| {
+            let (low, fmax) = pair(random);
+            let fmin = if sound { 1 } else { low };
+            Group { fmin, fmax }
+        };
+        let groups = (0..=k % 2).map(group).collect();
+        let (min, max) = pair(random);
+        preds.push(Predicate {
+            min,
+            max,
+            roles,
+            groups,
+        });
+    }
+    let version = random.pick(&[1, 2, 2, 2, 2]);
+    let mut d = Diagram {
+        version,
+        types,
+        preds,
+    };
+    if version == 1 {
+        roles_mut(&mut d).for_each(|role| (role.rmin, role.rmax) = (1, 4096));
+    }
+    d
+}
+
 /// A valid diagram, in half of the cases of version 2.
 pub fn diagram(random: &mut Random) -> Diagram {
+    if random.below(300) == 0 {
+        return longest(random);
+    }
     let mut d = match random.chance(5) {
         true => ring(random),
         false => net(random),

@@ -86,6 +86,17 @@ fn store_validate(answer: &mut [u64; 4], outcome: validator::ValidateAnswer)
     }
 }
 
+// The cells of the population of a table's diagram.
+#[no_mangle]
+pub extern "C" fn legshorgan_populate(table: &[u32], cells: &mut [u32], answer: &mut [u64; 4])
+    ensures { λ _. ⌜ now (answer .exit) ≡ numbers (handedBack (populateCall (now (table .entry)) (length (now (cells .entry))))) ⌝ }
+    ensures { λ _. ⌜ now (cells .exit) ≡ bufferAfter (written (populateCall (now (table .entry)) (length (now (cells .entry))))) (now (cells .entry)) ⌝ }
+    ensures { λ _. ⌜ Told (now (table .entry)) cellsOf (now (answer .exit)) (now (cells .entry)) (now (cells .exit)) ⌝ }
+{
+    let outcome = populate::populate(table, cells);
+    store_settlement(answer, outcome);
+}
+
 // Reads a diagram from its text into its table.
 #[no_mangle]
 pub extern "C" fn legshorgan_read(text: &[u8], table: &mut [u32], answer: &mut [u64; 4])
@@ -105,17 +116,6 @@ pub extern "C" fn legshorgan_check(table: &[u32], sizes: &mut [u32], answer: &mu
     ensures { λ _. ⌜ Told (now (table .entry)) settledSizes (now (answer .exit)) (now (sizes .entry)) (now (sizes .exit)) ⌝ }
 {
     let outcome = bounds::check(table, sizes);
-    store_settlement(answer, outcome);
-}
-
-// The cells of the population of a table's diagram.
-#[no_mangle]
-pub extern "C" fn legshorgan_populate(table: &[u32], cells: &mut [u32], answer: &mut [u64; 4])
-    ensures { λ _. ⌜ now (answer .exit) ≡ numbers (handedBack (populateCall (now (table .entry)) (length (now (cells .entry))))) ⌝ }
-    ensures { λ _. ⌜ now (cells .exit) ≡ bufferAfter (written (populateCall (now (table .entry)) (length (now (cells .entry))))) (now (cells .entry)) ⌝ }
-    ensures { λ _. ⌜ Told (now (table .entry)) cellsOf (now (answer .exit)) (now (cells .entry)) (now (cells .exit)) ⌝ }
-{
-    let outcome = populate::populate(table, cells);
     store_settlement(answer, outcome);
 }
 

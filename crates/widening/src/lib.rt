@@ -6,7 +6,7 @@ use reader::FormAnswer;
 use reader::MOST_NUMBERS;
 ghost use mathlib.Core.Path.{_≡_};
 ghost use Prim.Native.Nat.{_+_, _*_, _≤_};
-ghost use lib.ListN.{length, take, drop};
+ghost use lib.ListN.{length, take, drop, replicate};
 ghost use Rattle.orm.specs.Text.{tableLine};
 ghost use Rattle.orm.specs.Outcome.{bufferAfter};
 ghost use Rattle.orm.specs.Calls.{diagramIn};
@@ -149,7 +149,9 @@ fn widen(t: &[u32], types: usize, preds: usize, out: &mut [u32]) -> usize
 }
 
 // Room for every table.
-pub fn scratch() -> [u32; MOST_NUMBERS] {
+pub fn scratch() -> [u32; MOST_NUMBERS]
+    ensures { λ r. ⌜ r ≡ replicate mostNumbers 0 ⌝ }
+{
     [0u32; MOST_NUMBERS]
 }
 

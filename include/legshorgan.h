@@ -1,7 +1,7 @@
 /* Legshorgan for programs in C: the calls of crates/capi.
  *
  * Every text, table and list of cells is input, and every call ends. It allocates nothing and has no global state; of the stack it
- * takes up to about 93,000 bytes (measured). A refused call writes only its answer. An accepted one writes its result at the front
+ * takes up to about 126,000 bytes (measured). A refused call writes only its answer. An accepted one writes its result at the front
  * of the caller's array, and nothing behind it. The contracts in crates/capi/src/lib.rt say exactly what stands in the answer and in
  * that array afterwards.
  *
@@ -19,10 +19,10 @@ extern "C" {
 #endif
 
 /* No diagram has a longer result. A shorter array does where the result fits into it. */
-#define LEGSHORGAN_MOST_TABLE 708u    /* 1 + 1 + 32 * 6 + 1 + 32 * 4 + 96 * 3 + 48 * 2 + 1 numbers */
+#define LEGSHORGAN_MOST_TABLE 900u    /* 1 + 1 + 32 * 6 + 1 + 32 * 4 + 96 * 5 + 48 * 2 + 1 numbers; 708 in diagram=1 */
 #define LEGSHORGAN_MOST_SIZES 208u    /* 32 types, 32 predicates, 96 roles, 48 groups */
 #define LEGSHORGAN_MOST_CELLS 524352u /* 32 and 32 sizes, 32 * 4096 values, 96 * 4096 values of rows */
-#define LEGSHORGAN_MOST_TEXT 3603u    /* bytes */
+#define LEGSHORGAN_MOST_TEXT 4553u    /* bytes; 3593 in diagram=1 */
 
 /* The answer of legshorgan_read, check, populate and write:
  *   answer[0]  0: accepted; else the number of the refusal, 1 to 8
@@ -48,8 +48,8 @@ void legshorgan_write(const uint32_t *table, size_t table_length, uint8_t *text,
 /* Whether cells are a population that meets every constraint of a table's diagram. Writes only its answer:
  *   answer[0]  0: not refused; else 1 to 6 of the table, or 9 where the cells end early or run on
  *   answer[1]  the line from 1 (1 to 6), the index of the cell from 0 (9); 0 if not refused
- *   answer[2]  the lowest broken constraint, 1 to 10 for K1 to K10; 0 if none is broken
- *   answer[3]  the lowest number of a type (K1 to K4, K10) or a predicate (K5 to K9) that breaks it; 0 if none does
+ *   answer[2]  the lowest broken constraint, 1 to 11 for K1 to K11; 0 if none is broken
+ *   answer[3]  the lowest number of a type (K1 to K4, K10) or a predicate (K5 to K9, K11) that breaks it; 0 if none does
  */
 void legshorgan_validate(const uint32_t *table, size_t table_length, const uint32_t *cells, size_t cells_length, uint64_t answer[4]);
 

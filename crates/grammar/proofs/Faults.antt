@@ -5,12 +5,12 @@ use mathlib.Core.Bool.{Bool, true, false}
 use mathlib.Core.Option.{Option, none, some}
 use mathlib.Core.List.{List, [], _∷_}
 use lib.Dec.{leb, ltb, eqb}
-use lib.ListN.{getD}
-use Rattle.orm.specs.Diagram.{LineKind, typeLine, predLine, freqLine, endLine, roleLineOf}
+use native.Mathlib.Omega.{arith}
+use lib.ListN.{length, getD}
+use Rattle.orm.specs.Diagram.{LineKind, typeLine, predLine, roleLine, limitedRoleLine, freqLine, endLine, limitsRoles, roleLineOf}
 use Rattle.orm.specs.Form.{ranges, inRanges, Test, _unless_, firstOf, mostRoles, mostGroups, countOf, typeOf, roleOf, groupOf, headOf, predTests, roleTests, endTests}
-use Rattle.lexer.specs.declared.Kind.{Kind}
-use Rattle.lexer.specs.Cuts.{kindOf}
 use Rattle.grammar.specs.declared.Verdict.{Verdict}
+use Rattle.grammar.specs.Awaited.{roleFieldsOf}
 use Rattle.grammar.specs.Fault.{faultOf, unlessOf}
 use Rattle.grammar.specs.Step.{faultIn, typeTestsIf, freqTests}
 
@@ -56,15 +56,33 @@ pred-verdict roles groups v r r₃ r₄ r₅ h₀ h₁ h₂ h₃ h₄ h₅ h₆ 
     (then 2 (leb (groups + getD v 3 0) 48) _
     (then 4 (leb (getD v 0 0) (getD v 1 0)) [] no-more))))
 
-pub role-verdict : (kind types groups : ℕ) (v : List ℕ) {x₀ x₂ : ℕ} {b₂ b₃ b₄ b₅ : Bool} (k : Kind) (r r₃ r₄ r₅ : Verdict)
-    → faultOf r ≡ unlessOf 2 b₂ (faultOf r₃) → b₂ ≡ inRanges (ranges (kindOf k)) v → kindOf k ≡ roleLineOf kind
+-- the ranges of a role line with RMIN and RMAX start with those of one without them
+ranged-first : (v : List ℕ) → length v ≡ 3 → inRanges (ranges limitedRoleLine) v ≡ inRanges (ranges roleLine) v
+unfolding ranges inRanges
+ranged-first [] e = refl
+ranged-first (a ∷ []) e = refl
+ranged-first (a ∷ b ∷ []) e = refl
+ranged-first (a ∷ b ∷ c ∷ []) e = refl
+ranged-first (a ∷ b ∷ c ∷ d ∷ v) e = absurd (omega arith)
+
+role-ranged : (kind : ℕ) (v : List ℕ) → length v ≡ roleFieldsOf kind → inRanges (ranges limitedRoleLine) v ≡ inRanges (ranges (roleLineOf kind)) v
+unfolding roleLineOf
+role-ranged kind v e = go (limitsRoles kind) e
+  where
+    go : (b : Bool) → length v ≡ elim b as (λ _. ℕ) [ true ↦ 5 | false ↦ 3 ]
+        → inRanges (ranges limitedRoleLine) v ≡ inRanges (ranges (elim b as (λ _. LineKind) [ true ↦ limitedRoleLine | false ↦ roleLine ])) v
+    go true h = refl
+    go false h = ranged-first v h
+
+pub role-verdict : (kind types groups : ℕ) (v : List ℕ) {x₀ x₂ : ℕ} {b₂ b₃ b₄ b₅ : Bool} (r r₃ r₄ r₅ : Verdict) → length v ≡ roleFieldsOf kind
+    → faultOf r ≡ unlessOf 2 b₂ (faultOf r₃) → b₂ ≡ inRanges (ranges limitedRoleLine) v
     → faultOf r₃ ≡ unlessOf 3 b₃ (faultOf r₄) → b₃ ≡ leb x₀ types → x₀ ≡ getD v 0 0
     → faultOf r₄ ≡ unlessOf 3 b₄ (faultOf r₅) → b₄ ≡ leb x₂ groups → x₂ ≡ getD v 2 0
     → faultOf r₅ ≡ unlessOf 4 b₅ none → b₅ ≡ leb (roleOf kind v .rmin) (roleOf kind v .rmax)
     → faultOf r ≡ faultIn (roleLineOf kind) v (roleTests types groups (roleOf kind v))
 unfolding roleTests
-role-verdict kind types groups v k r r₃ r₄ r₅ h₀ h₁ hk h₂ h₃ h₄ h₅ h₆ h₇ h₈ h₉ =
-    let ranged : inRanges (ranges (kindOf k)) v ≡ inRanges (ranges (roleLineOf kind)) v = ap (λ (l : LineKind). inRanges (ranges l) v) hk in
+role-verdict kind types groups v r r₃ r₄ r₅ long h₀ h₁ h₂ h₃ h₄ h₅ h₆ h₇ h₈ h₉ =
+    let ranged : inRanges (ranges limitedRoleLine) v ≡ inRanges (ranges (roleLineOf kind)) v = role-ranged kind v long in
     cc (then 2 (inRanges (ranges (roleLineOf kind)) v) _
     (then 3 (leb (getD v 0 0) types) _
     (then 3 (leb (getD v 2 0) groups) _

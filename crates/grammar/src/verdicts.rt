@@ -1,7 +1,6 @@
 // The tests of a line, in their order: each test is made, and the first that fails decides.
 use crate::Fault;
 use crate::Verdict;
-use crate::places::role_kind;
 use crate::ranges::in_ranges;
 use crate::tests::at_most;
 use crate::tests::below;
@@ -65,7 +64,7 @@ pub fn pred_verdict(roles: usize, groups: usize, line: &[u32]) -> Verdict
     unless(Fault::OutOfRange, in_ranges(Kind::PredLine, line), totals)
 }
 
-// A role line in a diagram of this kind.
+// A role line in a diagram of this kind. RMIN and RMAX come last, so that their line's ranges do for one without them.
 pub fn role_verdict(kind: usize, types: usize, groups: usize, line: &[u32]) -> Verdict
     requires { ⌜ length (now line) ≡ roleFieldsOf kind ⌝ }
     ensures { λ r. ⌜ faultOf r ≡ faultIn (roleLineOf kind) (now (line .entry)) (roleTests types groups (roleOf kind (now (line .entry)))) ⌝ }
@@ -77,7 +76,11 @@ pub fn role_verdict(kind: usize, types: usize, groups: usize, line: &[u32]) -> V
     );
     let group = unless(Fault::Unknown, at_most(number(line, 2), groups), limits);
     let player = unless(Fault::Unknown, at_most(number(line, 0), types), group);
-    unless(Fault::OutOfRange, in_ranges(role_kind(kind), line), player)
+    unless(
+        Fault::OutOfRange,
+        in_ranges(Kind::LimitedRoleLine, line),
+        player,
+    )
 }
 
 pub fn freq_verdict(used: bool, line: &[u32]) -> Verdict

@@ -24,7 +24,7 @@ fn push_sum(types: &[u32], first: u32, a: u32, own: u32, out: &mut [u32], at: us
     ensures { λ r. ⌜ Wrote (now (out .entry)) at (encode (limitOfTypes (now (types .entry)) first a ∷ [])) (now (out .exit)) r ⌝ }
 {
     let b = header(out, at, 1, a, 0, own);
-    selection::push_of_type(types, a + 1, first, out, b)
+    selection::push_of_type(types, a + 1, first, own, out, b)
 }
 
 // The limits of the type at position q, whose set is a.

@@ -13,7 +13,7 @@ ghost use Rattle.buffer.specs.Written.{Wrote};
 ghost use Rattle.orm.specs.Diagram.{allRoles};
 ghost use Rattle.table.specs.Positions.{roleWidth, rolesIn, diagramOf, Walkable};
 ghost use Rattle.table.specs.Cursors.{placedAt, Here};
-ghost use Rattle.selection.specs.Selected.{typesOf, positions, Types};
+ghost use Rattle.selection.specs.Selected.{typesOf, positions, Types, Next};
 
 // ---- single numbers
 
@@ -114,19 +114,39 @@ pub fn role_count(t: &[u32], types: &[u32]) -> u32
     types.len() as u32
 }
 
-// The sets of those of the type with this number; `first` is the first role's set.
-pub fn push_of_type(types: &[u32], number: u32, first: u32, out: &mut [u32], at: usize) -> usize
+// The first role from `from` on that is of the type with this number, where there is one.
+fn next_of_type(types: &[u32], number: u32, from: usize) -> usize
+    requires { ⌜ 0 < length (positions number 0 (drop from (now types))) ⌝ }
+    ensures { λ r. ⌜ Next number (now (types .entry)) from r ⌝ }
+{
+    let mut i = from;
+    while differ(types[i], number) {
+        i += 1;
+    }
+    i
+}
+
+// The sets of the `count` roles of the type with this number; `first` is the first role's set.
+pub fn push_of_type(
+    types: &[u32],
+    number: u32,
+    first: u32,
+    count: u32,
+    out: &mut [u32],
+    at: usize,
+) -> usize
     requires { ⌜ first + length (now types) < 4294967296 ⌝ }
+    requires { ⌜ count ≡ length (positions number 0 (now types)) ⌝ }
     ensures { λ r. ⌜ Wrote (now (out .entry)) at (positions number first (now (types .entry))) (now (out .exit)) r ⌝ }
 {
+    let mut left = count;
     let mut i = 0;
-    let mut role = first;
     let mut to = at;
-    while i < types.len() {
-        let yes = same(types[i], number);
-        to = push_if(out, to, yes, role);
-        i += 1;
-        role += 1;
+    while 0 < left {
+        let role = next_of_type(types, number, i);
+        to = buffer::push(out, to, first + role as u32);
+        i = role + 1;
+        left -= 1;
     }
     to
 }

@@ -1,9 +1,10 @@
 -- The roles of a type, or in a group: what a turn of a loop over them writes or counts, and what it leaves.
 use Prim.Native.Nat.{ℕ, zero, suc, _+_, _-_, _≤_, _<_}
 use native.Mathlib.Numerals.{add-one}
+use native.Mathlib.Decide.{decLe}
 use native.Mathlib.Omega.{arith}
-use mathlib.Core.Path.{_≡_, refl, ap, _∙_}
-use mathlib.Core.Bool.{Bool, true, false}
+use mathlib.Core.Path.{_≡_, refl, sym, ap, _∙_}
+use mathlib.Core.Bool.{Bool, true, false, not}
 use mathlib.Core.List.{List, [], _∷_, _++_}
 use lib.Dec.{eqb}
 use lib.ListN.{length, getD, drop, length-append, drop-of-length-le}
@@ -11,13 +12,13 @@ use lib.Seq.{drop-cons}
 use Rattle.orm.specs.Diagram.{Role}
 use Rattle.counting.specs.Lists.{when, upFrom}
 use Rattle.orm.specs.Sets.{select, rolesInGroup, groupRoles}
-use Rattle.buffer.specs.Written.{Wrote, Splits}
-use Rattle.buffer.specs.Laws.{wrote-as, wrote-none}
+use Rattle.buffer.specs.Written.{Wrote, Writing, Splits}
+use Rattle.buffer.specs.Laws.{wrote-as, wrote-none, writing-start}
 use Rattle.table.specs.Positions.{roleWidth, wideRole, rolesIn, rolesStart}
 use Rattle.table.specs.Laws.Walks.{role-more, role-none, roles-here}
 use Rattle.table.specs.Cursors.{placedAt}
 use Rattle.table.specs.declared.Cursor.{Cursor}
-use Rattle.selection.specs.Selected.{typesOf, positions}
+use Rattle.selection.specs.Selected.{typesOf, positions, Next, Seeking}
 
 pub when-true : {o o′ : List ℕ} {at to x : ℕ} {b : Bool} → b ≡ true → Wrote o at (x ∷ []) o′ to → Wrote o at (when b x) o′ to
 when-true e w = rw e w
@@ -91,6 +92,77 @@ module _ (number : ℕ) where
 
       pub counting-all : length xs ≤ i → m ≡ total
       counting-all h = let none : length (positions number 0 (drop i xs)) ≡ 0 = ap length (positions-none 0 h) in omega (arith, none, w)
+
+-- ---- the next role of a type
+
+some-within : (number : ℕ) (xs : List ℕ) (k : ℕ) → 0 < length (positions number 0 (drop k xs)) → k < length xs
+some-within number xs k h = go (decLe (length xs) k)
+  where
+    go : Dec (length xs ≤ k) → k < length xs
+    go (yes l) = let none : length (positions number 0 (drop k xs)) ≡ 0 = ap length (positions-none number xs k 0 l) in absurd (omega arith)
+    go (no n) = omega arith
+
+differs : (b : Bool) → not b ≡ true → false ≡ b
+differs true e = e
+differs false e = refl
+
+agrees : (b : Bool) → not b ≡ false → true ≡ b
+agrees true e = refl
+agrees false e = e
+
+no-length : (xs : List ℕ) → length xs ≡ 0 → xs ≡ []
+no-length [] e = refl
+no-length (x ∷ xs) e = absurd (omega arith)
+
+module _ (number : ℕ) (xs : List ℕ) (k : ℕ) where
+  pub seeking-start : 0 < length (positions number 0 (drop k xs)) → Seeking number xs k k
+  seeking-start h = record { within = some-within number xs k h; some = h; onward = λ i. refl }
+
+  module _ {from : ℕ} (w : Seeking number xs from k) {b : Bool} (eb : b ≡ not (eqb (getD xs k 0) number)) where
+    pub seeking-more : b ≡ true → Seeking number xs from (k + 1)
+    seeking-more e =
+        let rest : List ℕ = drop (k + 1) xs in
+        let passed : (i : ℕ) → positions number i (drop k xs) ≡ positions number (i + 1) rest =
+        λ i. positions-more number xs k i (w .within) (differs (eqb (getD xs k 0) number) (sym eb ∙ e)) .is in
+        let more : 0 < length (positions number 0 rest) =
+        omega (arith, ap length (passed 0), positions-length number (0 + 1) 0 rest, w .some) in
+        record {
+          within = some-within number xs (k + 1) more;
+          some = more;
+          onward =
+              λ i.
+              let e′ : i + k + 1 ≡ i + (k + 1) = omega arith in
+              w .onward i ∙ passed (i + k) ∙ ap (λ (j : ℕ). positions number j rest) e′;
+        }
+
+    pub seeking-found : b ≡ false → Next number xs from k
+    seeking-found e = record {
+      within = w .within;
+      is =
+          λ i.
+          let e′ : i + k + 1 ≡ i + (k + 1) = omega arith in
+          w .onward i ∙ positions-more number xs k (i + k) (w .within) (agrees (eqb (getD xs k 0) number) (sym eb ∙ e)) .is
+          ∙ ap (λ (j : ℕ). (i + k) ∷ positions number j (drop (k + 1) xs)) e′;
+    }
+
+  pub next-start : (o : List ℕ) (at set : ℕ) → Writing o at (positions number set xs) o at (positions number (set + 0) (drop 0 xs))
+  next-start o at set = let e : set + 0 ≡ set = omega arith in rw e (writing-start o at (positions number set xs))
+
+  pub next-splits : (set : ℕ) {r : ℕ} → Next number xs k r
+      → Splits (positions number (set + k) (drop k xs)) ((set + r) ∷ []) (positions number (set + (r + 1)) (drop (r + 1) xs))
+  next-splits set n = record { is = n .is set }
+
+  module _ {left : ℕ} (w : left ≡ length (positions number 0 (drop k xs))) where
+    pub some-left : 0 < left → 0 < length (positions number 0 (drop k xs))
+    some-left h = omega (arith, w)
+
+    pub left-behind : {r : ℕ} → Next number xs k r → left - 1 ≡ length (positions number 0 (drop (r + 1) xs))
+    left-behind {r} n =
+        let rest : List ℕ = drop (r + 1) xs in
+        omega (arith, w, ap length (n .is 0), positions-length number (0 + k) 0 (drop k xs), positions-length number (0 + (r + 1)) 0 rest)
+
+    pub none-left : (set : ℕ) → left ≤ 0 → positions number set (drop k xs) ≡ []
+    none-left set h = no-length (positions number set (drop k xs)) (omega (arith, w, positions-length number set 0 (drop k xs)))
 
 -- ---- the roles of a group
 

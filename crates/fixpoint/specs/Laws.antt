@@ -8,15 +8,19 @@ pub mod AnyOrder
 use Prim.Native.Nat.{ℕ, _≤_, _<_}
 use mathlib.Core.Path.{_≡_}
 use mathlib.Core.Logic.{_↔_}
-use mathlib.Core.List.{List}
+use mathlib.Core.Bool.{true, false}
+use mathlib.Core.List.{List, map}
+use native.Mathlib.Omega.{arith}
 use lib.ListN.{length, getD}
+use Rattle.counting.specs.Lists.{upFrom}
+use Rattle.counting.specs.Totals.{sumOver}
 use Rattle.counting.specs.Terms.{Each}
-use Rattle.fixpoint.specs.Limits.{Limit, Expr, valueOf, round, upperAfter, unsatisfiable, fixpoint, run}
-use Rattle.fixpoint.specs.Notions.{_≼_, Satisfies, Solution, GreatestSolution, Unsatisfiable, Fixpoint, EndsUnsatisfiable, EndsFixpoint, StepsEnd}
+use Rattle.fixpoint.specs.Limits.{Limit, Expr, valueOf, round, upperAfter, unsatisfiable, fixpoint, run, stepAt, lowersAt, anyLowers, stepsBy}
+use Rattle.fixpoint.specs.Notions.{_≼_, Satisfies, Solution, GreatestSolution, Unsatisfiable, Fixpoint, EndsUnsatisfiable, EndsFixpoint, Lowers, LowersTo, EachLowers, Stable, ComesBack}
 use Rattle.fixpoint.specs.Laws.Order.{valueOf-monotone, greatest-unique}
 use Rattle.fixpoint.specs.Laws.Round.{le-round, round-≼, round-monotone, round-same, upperAfter-sound}
 use Rattle.fixpoint.specs.Laws.Decision
-use Rattle.fixpoint.specs.Laws.AnyOrder.{steps-greatest, steps-exist}
+use Rattle.fixpoint.specs.Laws.AnyOrder
 
 pub record RoundLaws (ls : List Limit) : Type 0 where
   pub value-monotone : {a b : List ℕ} → a ≼ b → (e : Expr) → valueOf a e ≤ valueOf b e
@@ -56,21 +60,38 @@ run-laws ls lower start sized = record {
   fixpoint-iff = Decision.fixpoint-iff ls lower start sized;
 }
 
--- Limits put to use one at a time: some order comes to an end, and every order that does comes to the same, the greatest solution
+-- Limits put to use one at a time, by their numbers: a sequence of limits that each lower an entry comes to an end, and wherever no limit lowers any
+-- the same stands, the greatest solution
 pub record AnyOrderLaws (ls : List Limit) (start : List ℕ) : Type 0 where
-  pub exist : (d : List ℕ) × StepsEnd ls start d
-  pub greatest : {d : List ℕ} → StepsEnd ls start d → GreatestSolution ls start d
-  pub unique : {d e : List ℕ} → StepsEnd ls start d → StepsEnd ls start e → d ≡ e
-  pub unsatisfiable-iff : {d : List ℕ} → StepsEnd ls start d → (lower : List ℕ) → length lower ≡ length start
-      → EndsUnsatisfiable ls lower start ↔ ((i : ℕ) × (getD d i 0 < getD lower i 0))
-  pub fixpoint-iff : {d : List ℕ} → StepsEnd ls start d → (lower : List ℕ) → length lower ≡ length start
-      → (c : List ℕ) → EndsFixpoint ls lower start c ↔ ((c ≡ d) × (lower ≼ d))
+  -- What the tests say, and what a limit does that lowers an entry
+  pub says : (k : ℕ) (c : List ℕ) → (lowersAt ls k c ≡ true) ↔ Lowers ls k c
+  pub idle : (k : ℕ) (c : List ℕ) → lowersAt ls k c ≡ false → stepAt ls k c ≡ c
+  pub none-lowers : (c : List ℕ) → (anyLowers ls c ≡ false) ↔ Stable ls c
+  pub lowers-to : (k : ℕ) (c : List ℕ) → Lowers ls k c → LowersTo ls k c
+  -- No sequence of such limits is longer than the sum of the entries; some sequence of them comes to its end; and so does, whether each of its limits
+  -- lowers an entry or not, every sequence without end that comes back to each limit
+  pub finite : (ks : List ℕ) → EachLowers ls ks start → length ks ≤ sumOver (λ x. x) start
+  pub exist : (ks : List ℕ) × EachLowers ls ks start × Stable ls (stepsBy ls ks start)
+  pub reaches : (choice : ℕ → ℕ) → ComesBack (length ls) choice → (n : ℕ) × Stable ls (stepsBy ls (map choice (upFrom 0 n)) start)
+  -- Every end is the same, and says how `run` ends
+  pub greatest : (ks : List ℕ) → Stable ls (stepsBy ls ks start) → GreatestSolution ls start (stepsBy ls ks start)
+  pub unique : (ks js : List ℕ) → Stable ls (stepsBy ls ks start) → Stable ls (stepsBy ls js start) → stepsBy ls ks start ≡ stepsBy ls js start
+  pub unsatisfiable-iff : (ks : List ℕ) → Stable ls (stepsBy ls ks start) → (lower : List ℕ) → length lower ≡ length start
+      → EndsUnsatisfiable ls lower start ↔ ((i : ℕ) × (getD (stepsBy ls ks start) i 0 < getD lower i 0))
+  pub fixpoint-iff : (ks : List ℕ) → Stable ls (stepsBy ls ks start) → (lower : List ℕ) → length lower ≡ length start
+      → (c : List ℕ) → EndsFixpoint ls lower start c ↔ ((c ≡ stepsBy ls ks start) × (lower ≼ stepsBy ls ks start))
 
 pub any-order-laws : (ls : List Limit) (start : List ℕ) → AnyOrderLaws ls start
 any-order-laws ls start = record {
-  exist = steps-exist ls start;
-  greatest = steps-greatest;
-  unique = λ a b. greatest-unique (steps-greatest a) (steps-greatest b);
-  unsatisfiable-iff = λ e lower sized. Decision.unsatisfiable-iff-below ls lower start sized (steps-greatest e);
-  fixpoint-iff = λ e lower sized. Decision.fixpoint-iff-above ls lower start sized (steps-greatest e);
+  says = AnyOrder.lowersAt-iff ls;
+  idle = AnyOrder.lowersAt-idle ls;
+  none-lowers = AnyOrder.anyLowers-iff ls;
+  lowers-to = AnyOrder.lowers-to ls;
+  finite = λ ks h. omega (arith, AnyOrder.lowers-within ls ks start h);
+  exist = AnyOrder.steps-exist ls start;
+  reaches = AnyOrder.reaches ls start;
+  greatest = λ ks s. AnyOrder.steps-greatest ls ks start s;
+  unique = λ ks js s u. greatest-unique (AnyOrder.steps-greatest ls ks start s) (AnyOrder.steps-greatest ls js start u);
+  unsatisfiable-iff = λ ks s lower sized. Decision.unsatisfiable-iff-below ls lower start sized (AnyOrder.steps-greatest ls ks start s);
+  fixpoint-iff = λ ks s lower sized. Decision.fixpoint-iff-above ls lower start sized (AnyOrder.steps-greatest ls ks start s);
 }

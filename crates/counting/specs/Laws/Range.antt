@@ -37,7 +37,7 @@ unfolding upFrom
 length-upFrom a zero = refl
 length-upFrom a (suc n) = ap suc (length-upFrom (suc a) n)
 
-upFrom-snoc : (a n : ℕ) → upFrom a (suc n) ≡ upFrom a n ++ ((a + n) ∷ [])
+pub upFrom-snoc : (a n : ℕ) → upFrom a (suc n) ≡ upFrom a n ++ ((a + n) ∷ [])
 unfolding upFrom
 upFrom-snoc a zero = rw add-zero
 upFrom-snoc a (suc n) =

@@ -13,16 +13,12 @@ use Rattle.fixpoint.specs.Limits.{lowered, round}
 use Rattle.fixpoint.specs.Notions.{_≼_}
 use Rattle.fixpoint.specs.Laws.Order.{≼-refl, ≼-trans}
 use Rattle.buffer.specs.Written.{Wrote}
-use Rattle.lowering.specs.Sizes.{Small}
 use Rattle.lowering.specs.Encoding.{limitAt, decode}
 use Rattle.lowering.specs.Closed.{Whole}
 use Rattle.dependents.specs.Dependents.{Operand, Names, Last, Linked, differing, Lowering, Done, Served, Used, Due}
 use Rattle.dependents.specs.Laws.Starts.{operand-room, operand-whole, operand-within}
 use Rattle.dependents.specs.Laws.Lowering.{lowering-start, lowering-more, lowered-≼, lowered-done, done-since, served-since, due-round}
 use Rattle.dependents.specs.Laws.Differing.{differing-below}
-
-pub lowering-small : {xs old new : List ℕ} → Lowering xs old new → Small old → Small new
-lowering-small w s = record { at = λ k. le-trans (w .below .entry k) (s .at k) }
 
 -- ---- along the operands that name the set s: the limits of those behind q have been put to use
 
@@ -107,9 +103,6 @@ module _ (xs links old : List ℕ) (s : ℕ) (k : Linked xs (length old) (length
     walk-more e ep eq = rw eq (walk-next (rw (ep, owner) at e))
 
 module _ (xs old new₀ new : List ℕ) (s q : ℕ) (w : Walking xs s old new₀ q new) where
-  pub walk-small : Small old → Small new
-  walk-small h = lowering-small (w .lowering) h
-
   pub walk-used : q ≡ 0 → Used xs old s new₀ new
   walk-used e = record {
     lowering = w .lowering;

@@ -5,6 +5,7 @@ use mathlib.Core.List.{List, [], _∷_}
 use Rattle.fixpoint.specs.Limits.{valueOf, lowered, loweredBy, round, firstBelow, fixpoint, unsatisfiable, slack, runFrom, run}
 use Rattle.counting.specs.Totals.{productOver}
 use Rattle.counting.specs.Lists.{same}
+use Rattle.lowering.specs.Sizes.{largest}
 use Rattle.lowering.specs.Encoding.{exprOf, decodeFrom, decode}
 
 abbrev limits : List ℕ
@@ -18,6 +19,6 @@ fails : run (decode limits) (1 ∷ 0 ∷ []) (5 ∷ 9 ∷ []) ≡ unsatisfiable 
 unfolding exprOf decodeFrom decode valueOf lowered loweredBy round same firstBelow slack runFrom run
 fails = refl
 
-large : min 4096 (valueOf (4096 ∷ []) (exprOf 0 0 (0 ∷ 0 ∷ 0 ∷ 0 ∷ 0 ∷ 0 ∷ []))) ≡ 4096
+large : min largest (valueOf (4096 ∷ []) (exprOf 0 0 (0 ∷ 0 ∷ 0 ∷ 0 ∷ 0 ∷ 0 ∷ []))) ≡ largest
 unfolding exprOf valueOf productOver
 large = refl

@@ -21,7 +21,6 @@ use Rattle.fixpoint.specs.Laws.Round.{round-≼}
 use Rattle.fixpoint.specs.Laws.Tests.{Found, firstBelow-found, slack-less}
 use Rattle.buffer.specs.Written.{Wrote}
 use Rattle.buffer.specs.Laws.{wrote-whole, wrote-end, wrote-front, wrote-within, wrote-long}
-use Rattle.lowering.specs.Sizes.{Small}
 use Rattle.lowering.specs.Encoding.{decode}
 use Rattle.lowering.specs.Closed.{Closed}
 use Rattle.dependents.specs.Dependents.{Room, Linked, Linking, Below, differing}
@@ -102,11 +101,11 @@ step-paired {xs} {upper = upper} w e = w .paired ∙ sym (ap length e ∙ round-
 
 -- ---- the run
 
-slack-small : (f c : List ℕ) → Small c → slack f c ≤ 4096 * length c
+slack-small : (f c : List ℕ) → ((s : ℕ) → getD c s 0 ≤ 4096) → slack f c ≤ 4096 * length c
 unfolding slack
 slack-small [] c s = omega arith
 slack-small (f ∷ fs) [] s = omega arith
-slack-small (f ∷ fs) (x ∷ xs) s = omega (arith, s .at 0, slack-small fs xs (record { at = λ k. s .at (suc k) }))
+slack-small (f ∷ fs) (x ∷ xs) s = omega (arith, s 0, slack-small fs xs (λ k. s (suc k)))
 
 found-of : (x : Option ℕ) {r : Lowest} (i : ℕ) → r ≡ At i → r ≡ lowestOf x → x ≡ some i
 found-of (some j) i p e = cc
@@ -221,7 +220,6 @@ module _ {xs lower start changed₀ links₀ : List ℕ} where
     running = begin (decode xs) lower start above;
     standing = record {
       closed = b .closed;
-      small = b .small;
       paired = b .paired;
       next-room = s .next-room;
       changed-room = s .changed-room;
@@ -309,14 +307,12 @@ module _ {xs lower start changed₀ links₀ : List ℕ} where
         turn-more {links′} re =
             let index : Linking xs (length start) (length xs) links₀ links′ =
             relinked n xs links₀ links (length start) (w .linked) (rw (as-long ∙ w .long) at re) in
-            let small : Small c′ = rw (a .stands) (record { at = λ i. le-trans (round-≼ (decode xs) c .entry i) (w .standing .small .at i) }) in
             let linked : Linked xs (length c′) (length xs) links′ = rw (as-long ∙ w .long) (index .linked) in
             record {
               bounds = w .bounds;
               running = rw (a .stands, add-one) (more (decode xs) lower start (w .running) (parts .0) differ (w .standing .paired));
               standing = record {
                 closed = linked .closed;
-                small = small;
                 paired = w .standing .paired ∙ sym as-long;
                 next-room = ap length (a .stands ∙ sym (a .same));
                 changed-room = omega (arith, as-long, w .standing .changed-room, wrote-long (a .listed));
@@ -325,7 +321,6 @@ module _ {xs lower start changed₀ links₀ : List ℕ} where
                 later = λ _. record {
                   due = record {
                     linked = linked;
-                    small = small;
                     before = c;
                     made = a .stands;
                     listed = rw (← parts .1, a .stands) (wrote-front (a .listed) long);

@@ -9,7 +9,6 @@ use mathlib.Core.Option.{Option, none, some}
 use Rattle.fixpoint.specs.Limits.{Limit, Verdict, unsatisfiable, fixpoint, firstBelow, round, upperAfter, run}
 use Rattle.buffer.specs.Written.{Wrote}
 use Rattle.lowering.specs.Encoding.{decode}
-use Rattle.lowering.specs.Sizes.{Small}
 use Rattle.lowering.specs.Closed.{Closed}
 use Rattle.dependents.specs.Dependents.{Room, Linking, Due, differing}
 use Rattle.rounds.specs.declared.Lowest.{Lowest}
@@ -83,7 +82,7 @@ pub record Bounds (xs lower upper : List ℕ) : Type 0 where
   pub closed : Closed xs (length upper)
   pub paired : length lower ≡ length upper
   pub few : length upper ≤ 208
-  pub small : Small upper
+  pub small : (s : ℕ) → getD upper s 0 ≤ 4096
 
 -- Scratch for a round, and for the links
 pub record Scratch (xs upper next changed links : List ℕ) : Type 0 where
@@ -94,7 +93,6 @@ pub record Scratch (xs upper next changed links : List ℕ) : Type 0 where
 -- What any round starts from
 pub record Standing (xs lower upper next changed : List ℕ) : Type 0 where
   pub closed : Closed xs (length upper)
-  pub small : Small upper
   pub paired : length lower ≡ length upper
   pub next-room : length upper ≡ length next
   pub changed-room : length upper ≤ length changed

@@ -16,5 +16,5 @@ start-bounds d w = record {
   closed = closed-encode _ (limits d) (limits-inside d w);
   paired = bounds-paired d;
   few = upper-few d w;
-  small = record { at = each-getD (_≤ 4096) (upper d) 0 (upper-small d w) (omega arith) };
+  small = each-getD (_≤ 4096) (upper d) 0 (upper-small d w) (omega arith);
 }

@@ -19,5 +19,5 @@ lower-by-spec =
     (λ c. search needs)
     (λ c. search (needs, target-there))
     (λ c. search needs)
-    (λ c. search (needs, lower-here))
+    (λ c. search (needs, lower-here, c .before .slice-known2 .given))
     (λ c. search (needs, lower-kept)))

@@ -2,14 +2,15 @@
 -- Assumes nothing.
 use Prim.Native.Nat.{_≤_, _-_}
 use lib.ListN.{length}
-use Rattle.lowering.proofs.Capped.{Timed, timed-none, timed-more, timed-all, small-fits}
+use Rattle.lowering.specs.Sizes.{largest}
+use Rattle.lowering.proofs.Capped.{Timed, timed-none, timed-more, timed-all}
 use Rattle.lowering.proofs.Step.{among-at}
 use borrow.Author.Needs.{needs}
 use Rattle.lowering.proofs.product.Statement.{statement}
 use Rattle.lowering.proofs.product.Tie as tie
 
 abbrev Inv-loop : tie.InvT-loop
-Inv-loop operands old p₀ i₀ p i = (i ≤ length operands) × (p ≤ 4096) × Timed old operands p i
+Inv-loop operands old p₀ i₀ p i = (i ≤ length operands) × (p ≤ largest) × Timed old operands p i
 
 abbrev μ-loop : tie.MeasureT-loop
 μ-loop operands old p₀ i₀ p i = length operands - i
@@ -24,7 +25,6 @@ product-spec =
     (λ c. search needs)
     (λ c. search needs)
     (λ c κs. search (needs, among-at))
-    (λ c. search (needs, small-fits))
     (λ c κs. search needs)
     (λ c. search needs)
     (λ c. search needs)

@@ -2,6 +2,7 @@
 -- Assumes nothing.
 use Prim.Native.Nat.{_≤_, _-_}
 use lib.ListN.{length}
+use Rattle.lowering.specs.Sizes.{largest}
 use Rattle.lowering.proofs.Capped.{Added, added-none, added-more, added-all}
 use Rattle.lowering.proofs.Step.{among-at}
 use borrow.Author.Needs.{needs}
@@ -9,7 +10,7 @@ use Rattle.lowering.proofs.sum.Statement.{statement}
 use Rattle.lowering.proofs.sum.Tie as tie
 
 abbrev Inv-loop : tie.InvT-loop
-Inv-loop operands old p₀ i₀ p i = (i ≤ length operands) × (p ≤ 4096) × Added old operands p i
+Inv-loop operands old p₀ i₀ p i = (i ≤ length operands) × (p ≤ largest) × Added old operands p i
 
 abbrev μ-loop : tie.MeasureT-loop
 μ-loop operands old p₀ i₀ p i = length operands - i
@@ -24,7 +25,6 @@ sum-spec =
     (λ c. search needs)
     (λ c. search needs)
     (λ c κs. search (needs, among-at))
-    (λ c. search needs)
     (λ c κs. search needs)
     (λ c. search needs)
     (λ c. search needs)

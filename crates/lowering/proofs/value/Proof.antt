@@ -1,6 +1,5 @@
 -- `lowering::value` meets its contract. Each arm is one of the kinds of `exprOf`.
 -- Assumes nothing.
-use Rattle.lowering.proofs.Capped.{small-fits}
 use Rattle.lowering.proofs.Step.{is-product, is-sum, is-times, is-quotient, fed-among, fed-times, fed-quotient}
 use borrow.Author.Needs.{needs}
 use Rattle.lowering.proofs.value.Statement.{statement}
@@ -12,11 +11,9 @@ value-spec =
     (tie.spec
     (λ c κs. search (needs, fed-among))
     (λ c κs. search (needs, fed-among))
+    (λ c κs. search (needs, fed-times))
     (λ c κs. search needs)
-    (λ c κs. search (needs, fed-times, fed-among))
-    (λ c. search (needs, small-fits))
-    (λ c κs. search needs)
-    (λ c κs. search (needs, fed-quotient, fed-among))
+    (λ c κs. search (needs, fed-quotient))
     (λ c κs. search needs)
     (λ c. search (needs, is-product))
     (λ c. search (needs, is-sum))

@@ -11,6 +11,7 @@ pub mod Inputs
 pub mod Subtypes
 pub mod SubtypeRanges
 pub mod RoleLimits
+pub mod SingleLimits
 pub mod Several
 pub mod Broken
 pub mod Lines

@@ -8,4 +8,5 @@ pub mod Named
 pub mod Cells
 pub mod Bounds
 pub mod Rounds
+pub mod SingleLimits
 pub mod Supertypes

@@ -20,6 +20,10 @@ firstRole d = firstPred d + length (d .preds)
 unfoldable pub firstGroup : Diagram → ℕ
 firstGroup d = firstRole d + length (allRoles d)
 
+-- How many sets there are
+unfoldable pub setCount : Diagram → ℕ
+setCount d = firstGroup d + length (allGroups d)
+
 -- Lower bounds (document 01: floors): 'MIN for types and predicates, else 1', and RMIN is 'the role's floor'
 unfoldable pub lower : Diagram → List ℕ
 lower d =
@@ -139,7 +143,7 @@ limitsOfType d a t =
     onlyIf (not (isRoot t)) (atMost a (index (t .super)))
     ++ onlyIf (mustPlay d (suc a) t) (record { target = a; most = sum (rolesOfType d (suc a)) })
 
--- All of them; their order shows nowhere (`RoundLaws.exact`)
+-- All of them; the rounds do not depend on their order (`RoundLaws.exact`), which is that of the limits' numbers (`SingleLimits`)
 unfoldable pub limits : Diagram → List Limit
 limits d = flatMap limitsOfPred (placed d) ++ flatten (mapFrom (limitsOfType d) 0 (d .types))
 

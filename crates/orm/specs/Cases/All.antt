@@ -16,6 +16,7 @@ use Rattle.orm.specs.Population
 use Rattle.orm.specs.Populate
 use Rattle.orm.specs.Constraints
 use Rattle.orm.specs.Calls
+use Rattle.orm.specs.SingleLimits
 use Rattle.orm.specs.LineReader
 use Rattle.orm.specs.Program
 
@@ -28,6 +29,7 @@ unfolding
     Pairing.gcdWithin Pairing.gcd Pairing.lcm Pairing.leftOf Pairing.rightOf Pairing.single Pairing.pairedWith Pairing.pairedWithAll
     Pairing.tuples
     Limits.valueOf Limits.lowered Limits.loweredBy Limits.round Limits.upperAfter Limits.firstBelow Limits.slack Limits.runFrom Limits.run
+    Limits.lowers Limits.stepAt Limits.lowersAt Limits.anyLowers Limits.stepsBy
     Diagram.isRoot Diagram.isIndependent Diagram.isMandatory Diagram.isGrouped Diagram.plays Diagram.mustPlay Diagram.allRoles Diagram.allGroups Diagram.lineOfType
     Diagram.limitsRoles Diagram.roleLineOf Diagram.lineOfRole Diagram.lineOfGroup Diagram.lineOfPred Diagram.linesOfPred Diagram.lineOfCount
     Diagram.lines Diagram.table Diagram.totals
@@ -43,7 +45,7 @@ unfolding
     Sets.firstPred Sets.firstRole Sets.firstGroup Sets.lower Sets.upperOfType Sets.upperOfRole Sets.upper Sets.select Sets.rolesOfType Sets.rolesInGroup
     Sets.placedFrom Sets.placed Sets.groupSet Sets.groupRoles Sets.groupPart Sets.rolePart Sets.parts Sets.atMost Sets.onlyIf
     Sets.limitsOfRole Sets.limitsOfGroup Sets.limitOfRows Sets.limitsOfPred Sets.limitsOfType Sets.limits Sets.upperAfterRounds
-    Sets.mostRounds Sets.verdictFrom
+    Sets.mostRounds Sets.verdictFrom Sets.setCount
     Population.cellsOfType Population.cellsOfPred Population.cells Population.block Population.rowsOf Population.typeBlock
     Population.predBlock Population.blocks Population.cutting
     Populate.takenBefore Populate.partTuple
@@ -55,6 +57,7 @@ unfolding
     Constraints.firstFalse Constraints.firstBroken Constraints.answer
     Calls.diagramIn Calls.sizesBy Calls.sizesOf Calls.populationIn Calls.readCall Calls.writeCall Calls.settledInto Calls.checkCall Calls.populateCall
     Calls.validateCall
+    SingleLimits.frontOf SingleLimits.numbered SingleLimits.startCall SingleLimits.lowerCall SingleLimits.surveyCall
     LineReader.lineLength LineReader.nextLine LineReader.positionAfter
     Program.predText Program.report Program.reported Program.output Program.program
 everything = tt

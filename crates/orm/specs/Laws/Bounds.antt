@@ -12,7 +12,7 @@ use Rattle.counting.specs.Laws.Index.{in-at, each-from-at}
 use Rattle.orm.specs.Diagram.{ObjectType, Role, Frequency, Predicate, Diagram, allRoles, allGroups}
 use Rattle.orm.specs.Supertypes.{hasRange}
 use Rattle.orm.specs.WellFormed.{TypeForm, WellFormed}
-use Rattle.orm.specs.Sets.{lower, upperOfType, upperOfRole, upper}
+use Rattle.orm.specs.Sets.{firstPred, firstRole, firstGroup, setCount, lower, upperOfType, upperOfRole, upper}
 
 module _ (d : Diagram) where
   -- as many as there are sets
@@ -23,6 +23,10 @@ module _ (d : Diagram) where
   pub length-upper : length (upper d) ≡ length (d .types) + length (d .preds) + length (allRoles d) + length (allGroups d)
   unfolding upper
   length-upper = simp (length-append, length-map)
+
+  pub upper-sets : length (upper d) ≡ setCount d
+  unfolding setCount firstGroup firstRole firstPred
+  upper-sets = length-upper
 
   pub bounds-paired : length (lower d) ≡ length (upper d)
   bounds-paired = length-lower ∙ sym length-upper

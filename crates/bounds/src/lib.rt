@@ -101,14 +101,6 @@ fn check_in(
 }
 
 // A call's result is a name in what is to be proved; an array written in place is all its numbers.
-fn limit_space() -> [u32; 3776] {
-    [0u32; 3776]
-}
-
-fn set_space() -> [u32; 208] {
-    [0u32; 208]
-}
-
 fn place_space() -> [usize; 208] {
     [0usize; 208]
 }
@@ -138,10 +130,10 @@ fn check_any(t: &[u32], roles: u32, groups: u32, sizes: &mut [u32]) -> Settlemen
     requires { ⌜ ValidTotals (now t) roles groups ⌝ }
     ensures { λ r. ⌜ Answered (checked (now (t .entry)) (length (now (sizes .entry)))) r (now (sizes .entry)) (now (sizes .exit)) ⌝ }
 {
-    let mut limits = limit_space();
-    let mut lower = set_space();
-    let mut upper = set_space();
-    let mut next = set_space();
+    let mut limits = limits::limit_space();
+    let mut lower = limits::set_space();
+    let mut upper = limits::set_space();
+    let mut next = limits::set_space();
     let mut changed = place_space();
     let mut links = link_space();
     check_in(
@@ -184,23 +176,15 @@ fn check_short(t: &[u32], roles: u32, groups: u32, sizes: &mut [u32]) -> Settlem
     )
 }
 
-// A number of roles or groups.
-fn count(x: usize) -> u32
-    requires { ⌜ x ≤ 96 ⌝ }
-    ensures { λ r. ⌜ r ≡ x ⌝ }
-{
-    x as u32
-}
-
 // Writes the sizes of the sets of a valid table's diagram, which has so many roles and groups.
 pub fn check_valid(t: &[u32], roles: usize, groups: usize, sizes: &mut [u32]) -> Settlement
     requires { ⌜ ValidTotals (now t) roles groups ⌝ }
     ensures { λ r. ⌜ Answered (checked (now (t .entry)) (length (now (sizes .entry)))) r (now (sizes .entry)) (now (sizes .exit)) ⌝ }
 {
     if t.len() <= 64 {
-        return check_short(t, count(roles), count(groups), sizes);
+        return check_short(t, limits::count(roles), limits::count(groups), sizes);
     }
-    check_any(t, count(roles), count(groups), sizes)
+    check_any(t, limits::count(roles), limits::count(groups), sizes)
 }
 
 // The check of any table; `wide` is scratch.

@@ -16,7 +16,8 @@ use crate::roles::role_lowers;
 use crate::roles::role_uppers;
 use crate::types::push_types;
 ghost use mathlib.Core.Path.{_≡_};
-ghost use lib.ListN.{length};
+ghost use Prim.Native.Nat.{_≤_};
+ghost use lib.ListN.{length, replicate};
 ghost use Rattle.orm.specs.Diagram.{allRoles, allGroups};
 ghost use Rattle.orm.specs.Sets.{lower, upper, limits};
 ghost use Rattle.selection.specs.Selected.{Types};
@@ -29,6 +30,28 @@ ghost use Rattle.limits.specs.Prepared.{ValidTotals, Roomy, Prepared};
 pub struct Extent {
     pub sets: usize,
     pub limits: usize,
+}
+
+// Room for the limits of every diagram.
+pub fn limit_space() -> [u32; 3776]
+    ensures { λ r. ⌜ r ≡ replicate 3776 0 ⌝ }
+{
+    [0u32; 3776]
+}
+
+// Room for a number of each set of every diagram.
+pub fn set_space() -> [u32; 208]
+    ensures { λ r. ⌜ r ≡ replicate 208 0 ⌝ }
+{
+    [0u32; 208]
+}
+
+// A number of roles or groups.
+pub fn count(x: usize) -> u32
+    requires { ⌜ x ≤ 96 ⌝ }
+    ensures { λ r. ⌜ r ≡ x ⌝ }
+{
+    x as u32
 }
 
 // The lower bounds of all sets of a table with so many groups.

@@ -1,0 +1,15 @@
+-- `propagation::fit` meets its contract. A buffer that is too short stays as it is.
+-- Assumes nothing.
+use Rattle.propagation.proofs.Answers.{fit-short, fit-whole}
+use borrow.Author.Needs.{needs}
+use Rattle.propagation.proofs.fit.Statement.{statement}
+use Rattle.propagation.proofs.fit.Tie as tie
+
+pub fit-spec : {M : Type 1} → statement M
+fit-spec =
+    tie.close
+    (tie.spec
+    (λ c. search (needs, fit-short))
+    (λ c κs. search needs)
+    (λ c. search needs)
+    (λ c. search (needs, fit-whole)))

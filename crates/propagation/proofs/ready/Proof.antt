@@ -1,0 +1,19 @@
+-- `propagation::ready` meets its contract. What is lent has room for what is prepared.
+-- Assumes nothing.
+use Rattle.propagation.proofs.Problems.{spaces-roomy, prepared-posed}
+use borrow.Author.Needs.{needs}
+use Rattle.propagation.proofs.ready.Statement.{statement}
+use Rattle.propagation.proofs.ready.Tie as tie
+
+pub ready-spec : {M : Type 1} → statement M
+ready-spec =
+    tie.close
+    (tie.spec
+    (λ c κs. search needs)
+    (λ c κs. search needs)
+    (λ c κs. (search needs, search (needs, spaces-roomy)))
+    (λ c. search needs)
+    (λ c. search needs)
+    (λ c. search needs)
+    (λ c. search needs)
+    (λ c. search (needs, prepared-posed)))

@@ -1,0 +1,159 @@
+-- Walks from limit to limit: how many have been passed, and that none of them lowers a size.
+use Prim.Native.Nat.{ℕ, zero, suc, _+_, _≤_, _<_}
+use mathlib.Core.Path.{_≡_, refl, sym, ap, subst, _∙_}
+use mathlib.Core.Bool.{Bool, true, false, _||_}
+use mathlib.Core.List.{List, [], _∷_}
+use native.Mathlib.Nat.{zero-add}
+use native.Mathlib.Decide.{decLe}
+use native.Mathlib.Omega.{arith}
+use lib.ListN.{length, getD}
+use borrow.Author.Tests.{lt-ltb, le-ltb}
+use Rattle.counting.specs.Laws.Index.{At, first, later}
+use Rattle.fixpoint.specs.Limits.{Limit, lowered, lowers, stepAt, lowersAt, anyLowers}
+use Rattle.fixpoint.specs.Laws.AnyOrder.{stepAt-is, lowersAt-is}
+use Rattle.lowering.specs.Encoding.{limitAt, decodeFrom, decode}
+use Rattle.lowering.specs.Closed.{Start, first as front, behind, Whole, Closed}
+use Rattle.steps.specs.Numbered.{Numbered}
+
+module _ (xs : List ℕ) where
+  -- what is decoded from an index on: a limit and the rest, or nothing
+  decode-more : (m at : ℕ) → at + 4 ≤ length xs → decodeFrom (suc m) xs at ≡ limitAt xs at ∷ decodeFrom m xs (at + 4 + getD xs (at + 3) 0)
+  unfolding decodeFrom
+  decode-more m at h = rw (le-ltb (length xs) (at + 4) h, decodeFrom)
+
+  decode-none : (m at : ℕ) → length xs < at + 4 → decodeFrom m xs at ≡ []
+  unfolding decodeFrom
+  decode-none zero at h = refl
+  decode-none (suc m) at h = rw (lt-ltb (length xs) (at + 4) h, decodeFrom)
+
+-- The limits from the index `at` on are all but the first n
+pub record Ahead (xs : List ℕ) (at n : ℕ) : Type 0 where
+  pub most : ℕ
+  pub enough : length xs ≤ at + most
+  pub counted : n + length (decodeFrom most xs at) ≡ length (decode xs)
+  pub numbered : (k : ℕ) (l : Limit) → At l (decodeFrom most xs at) k → At l (decode xs) (n + k)
+  pub start : Start xs at
+
+module _ (xs : List ℕ) where
+  pub ahead-start : Ahead xs 0 0
+  unfolding decode
+  ahead-start = record {
+    most = length xs;
+    enough = omega arith;
+    counted = omega arith;
+    numbered = λ k l h. rw zero-add h;
+    start = front;
+  }
+
+  module _ (at n : ℕ) (w : Ahead xs at n) where
+    pub ahead-more : {m : ℕ} → at + 4 ≤ length xs → m ≡ getD xs (at + 3) 0 → Ahead xs (at + 4 + m) (n + 1)
+    ahead-more {m} h e = go (w .most) (w .enough) (w .counted) (w .numbered)
+      where
+        go : (f : ℕ) → length xs ≤ at + f → n + length (decodeFrom f xs at) ≡ length (decode xs)
+            → ((k : ℕ) (l : Limit) → At l (decodeFrom f xs at) k → At l (decode xs) (n + k)) → Ahead xs (at + 4 + m) (n + 1)
+        go zero k c g = absurd (omega arith)
+        go (suc f) k c g = rw e (record {
+          most = f;
+          enough = omega arith;
+          counted = omega (arith, c, ap length (decode-more xs f at h));
+          numbered = λ j l i.
+              let z : n + suc j ≡ n + 1 + j = omega arith in
+              subst (λ (p : ℕ). At l (decode xs) p) z (g (suc j) l (rw (decode-more xs f at h) (later i)));
+          start = behind (w .start) h;
+        })
+
+    pub ahead-all : length xs < at + 4 → n ≡ length (decode xs)
+    ahead-all h = omega (arith, w .counted, ap length (decode-none xs (w .most) at h))
+
+    -- a limit that is not passed yet is there
+    pub ahead-room : n < length (decode xs) → at + 4 ≤ length xs
+    ahead-room l = go (decLe (at + 4) (length xs))
+      where
+        go : Dec (at + 4 ≤ length xs) → at + 4 ≤ length xs
+        go (yes h) = h
+        go (no h) = absurd (omega (arith, ahead-all (omega arith)))
+
+    pub ahead-here : n < length (decode xs) → Numbered xs n at
+    ahead-here l = go (w .most) (w .enough) (w .numbered)
+      where
+        go : (f : ℕ) → length xs ≤ at + f → ((k : ℕ) (l : Limit) → At l (decodeFrom f xs at) k → At l (decode xs) (n + k)) → Numbered xs n at
+        go zero k g = absurd (omega (arith, ahead-room l))
+        go (suc f) k g = record {
+          start = w .start;
+          room = ahead-room l;
+          limit =
+              let z : n + 0 ≡ n = omega arith in
+              subst (λ (p : ℕ). At (limitAt xs at) (decode xs) p) z (g 0 (limitAt xs at) (rw (decode-more xs f at (ahead-room l)) (first refl)));
+        }
+
+-- ---- the limit with a number
+
+-- on the way to the limit k the limits up to it are there
+module _ (xs : List ℕ) (k : ℕ) (there : k < length (decode xs)) where
+  pub first-there : 4 ≤ length xs
+  first-there = ahead-room xs 0 0 (ahead-start xs) (omega arith)
+
+  pub next-there : (at i : ℕ) {m : ℕ} → Ahead xs at i → i < k → at + 4 ≤ length xs → m ≡ getD xs (at + 3) 0 → at + 4 + m + 4 ≤ length xs
+  next-there at i {m} w l h e = ahead-room xs (at + 4 + m) (i + 1) (ahead-more xs at i w h e) (omega arith)
+
+  pub found : (at i : ℕ) → Ahead xs at i → i ≤ k → k ≤ i → Numbered xs k at
+  found at i w l h =
+      let e : i ≡ k = omega arith in
+      subst (λ (n : ℕ). Numbered xs n at) e (ahead-here xs at i w (omega arith))
+
+module _ (xs c : List ℕ) (k at : ℕ) (w : Numbered xs k at) where
+  pub numbered-whole : Closed xs (length c) → Whole xs (length c) at
+  numbered-whole h = h .whole at (w .start) (w .room)
+
+  pub numbered-lowers : {b : Bool} → b ≡ lowers c (limitAt xs at) → b ≡ lowersAt (decode xs) k c
+  numbered-lowers e = e ∙ sym (lowersAt-is (decode xs) c (w .limit))
+
+  pub numbered-lowered : {c′ : List ℕ} → c′ ≡ lowered c (limitAt xs at) c → c′ ≡ stepAt (decode xs) k c
+  numbered-lowered e = e ∙ sym (stepAt-is (decode xs) c (w .limit))
+
+-- ---- none of the limits passed lowers a size
+
+pub record Unlowered (xs c : List ℕ) (at : ℕ) : Type 0 where
+  pub most : ℕ
+  pub enough : length xs ≤ at + most
+  pub rest : anyLowers (decodeFrom most xs at) c ≡ anyLowers (decode xs) c
+  pub start : Start xs at
+
+module _ (xs c : List ℕ) where
+  pub unlowered-start : Unlowered xs c 0
+  unfolding decode
+  unlowered-start = record { most = length xs; enough = omega arith; rest = refl; start = front }
+
+  module _ (at : ℕ) (w : Unlowered xs c at) where
+    -- the next limit and those behind it
+    ahead : at + 4 ≤ length xs → (f : ℕ) × (length xs ≤ at + suc f)
+        × (lowers c (limitAt xs at) || anyLowers (decodeFrom f xs (at + 4 + getD xs (at + 3) 0)) c ≡ anyLowers (decode xs) c)
+    unfolding anyLowers
+    ahead h = go (w .most) (w .enough) (w .rest)
+      where
+        go : (f : ℕ) → length xs ≤ at + f → anyLowers (decodeFrom f xs at) c ≡ anyLowers (decode xs) c → (f : ℕ) × (length xs ≤ at + suc f)
+            × (lowers c (limitAt xs at) || anyLowers (decodeFrom f xs (at + 4 + getD xs (at + 3) 0)) c ≡ anyLowers (decode xs) c)
+        go zero k r = absurd (omega arith)
+        go (suc f) k r = (f, k, sym (ap (λ (ls : List Limit). anyLowers ls c) (decode-more xs f at h)) ∙ r)
+
+    pub unlowered-whole : at + 4 ≤ length xs → Closed xs (length c) → Whole xs (length c) at
+    unlowered-whole h l = l .whole at (w .start) h
+
+    pub unlowered-room : at + 4 ≤ length xs → Closed xs (length c) → at + 4 + getD xs (at + 3) 0 ≤ length xs
+    unlowered-room h l = unlowered-whole h l .room
+
+    pub unlowered-within : {e : ℕ} → at + 4 ≤ length xs → Closed xs (length c) → e ≡ at + 4 + getD xs (at + 3) 0 → e ≤ length xs
+    unlowered-within h l q = omega (arith, unlowered-room h l)
+
+    pub unlowered-more : {b : Bool} {e : ℕ} → b ≡ lowers c (limitAt xs at) → b ≡ false → at + 4 ≤ length xs → e ≡ at + 4 + getD xs (at + 3) 0
+        → Unlowered xs c e
+    unlowered-more is idle h q =
+        let (f, k, r) = ahead h in
+        rw q (record { most = f; enough = omega arith; rest = rw (← is, idle) at r; start = behind (w .start) h })
+
+    pub unlowered-here : {b : Bool} → b ≡ lowers c (limitAt xs at) → b ≡ true → at + 4 ≤ length xs → true ≡ anyLowers (decode xs) c
+    unlowered-here is taken h = rw (← is, taken) at (ahead h .2)
+
+    pub unlowered-all : length xs < at + 4 → false ≡ anyLowers (decode xs) c
+    unfolding anyLowers
+    unlowered-all h = sym (ap (λ (ls : List Limit). anyLowers ls c) (decode-none xs (w .most) at h)) ∙ w .rest

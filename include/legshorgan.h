@@ -53,6 +53,32 @@ void legshorgan_write(const uint32_t *table, size_t table_length, uint8_t *text,
  */
 void legshorgan_validate(const uint32_t *table, size_t table_length, const uint32_t *cells, size_t cells_length, uint64_t answer[4]);
 
+/* One limit at a time, on upper bounds of the sets that the caller keeps: legshorgan_start gives those that the rounds start from,
+ * legshorgan_lower puts one limit to use on them, legshorgan_survey says whether any limit still lowers one. In whatever order the
+ * limits come, where none lowers any more the bounds are the sizes that legshorgan_check writes; or one is below its lower bound,
+ * just where legshorgan_check refuses with 7. Limits have numbers from 0, in the order of docs/FORMAT.md. */
+
+/* Writes the upper bound of each set that the rounds start from, at most LEGSHORGAN_MOST_SIZES numbers. Refuses with 1 to 6, then 8.
+ * The answer is as for legshorgan_read. */
+void legshorgan_start(const uint32_t *table, size_t table_length, uint32_t *sizes, size_t sizes_length, uint64_t answer[4]);
+
+/* The answer of legshorgan_lower and survey:
+ *   answer[0]  0: accepted; else the number of the refusal, 1 to 6, 10 or 8
+ *   answer[1]  its place: the line from 1 (1 to 6), the number that no limit has (10), the number of sets (8); 0 if accepted
+ *   answer[2]  1 if a limit lowers an upper bound, else 0
+ *   answer[3]  the number of sets (lower) or of limits (survey) if accepted, else 0
+ */
+
+/* Puts the limit with this number to use on the upper bounds at the front of sizes, which may be any numbers: where the limit's
+ * value at these bounds is below the bound of the set that it limits, the bound becomes that value. Nothing else changes. Refuses
+ * with 1 to 6; 10 where no limit has the number; 8 where sizes has fewer numbers than the diagram has sets. */
+void legshorgan_lower(const uint32_t *table, size_t table_length, uint32_t number, uint32_t *sizes, size_t sizes_length,
+                      uint64_t answer[4]);
+
+/* Whether any limit lowers one of the upper bounds at the front of sizes, and how many limits there are. Writes only its answer.
+ * Refuses with 1 to 6, then 8. */
+void legshorgan_survey(const uint32_t *table, size_t table_length, const uint32_t *sizes, size_t sizes_length, uint64_t answer[4]);
+
 #ifdef __cplusplus
 }
 #endif

@@ -1,16 +1,31 @@
 -- The numbers stored for each answer are those of its outcome, and of the call that it answers.
 use Prim.Native.Nat.{ℕ}
 use mathlib.Core.Path.{_≡_, ap, _∙_}
+use mathlib.Core.Bool.{Bool, true, false}
 use mathlib.Core.List.{List, [], _∷_}
+use Rattle.counting.specs.Totals.{bit}
 use Rattle.orm.specs.Constraints.{Answer, valid, breaks}
 use Rattle.orm.specs.Outcome.{Outcome, refused, accepted, Handed}
+use Rattle.orm.specs.SingleLimits.{Found}
 use Rattle.reader.specs.Answer.{conversionOf}
 use Rattle.reader.specs.declared.Conversion.{Conversion}
 use Rattle.bounds.specs.Answer.{settlementOf}
 use Rattle.bounds.specs.declared.Settlement.{Settlement}
 use Rattle.validator.specs.Outcomes.{validateOf}
 use Rattle.validator.specs.declared.ValidateAnswer.{ValidateAnswer}
-use Rattle.capi.specs.Answers.{numbers, roundless, verdictNumbers}
+use Rattle.propagation.specs.Answer.{propagationOf}
+use Rattle.propagation.specs.declared.Propagation.{Propagation}
+use Rattle.capi.specs.Answers.{numbers, roundless, foundNumbers, verdictNumbers}
+
+-- ---- a truth value as a number
+
+pub bit-yes : (b : Bool) → b ≡ true → 1 ≡ bit b
+unfolding bit
+bit-yes b e = rw e
+
+pub bit-no : (b : Bool) → b ≡ false → 0 ≡ bit b
+unfolding bit
+bit-no b e = rw e
 
 module _ {a : List ℕ} where
   -- ---- the numbers of an outcome
@@ -39,6 +54,15 @@ module _ {a : List ℕ} where
   unfolding verdictNumbers
   verdict-breaks e ek em = cc
 
+  pub found-refusal : {n p number place : ℕ} → a ≡ n ∷ p ∷ 0 ∷ 0 ∷ [] → n ≡ number → p ≡ place → a ≡ foundNumbers (refused number place 0)
+  unfolding foundNumbers
+  found-refusal e en ep = cc
+
+  pub found-accepted : {k l count : ℕ} (lowers : Bool) → a ≡ 0 ∷ 0 ∷ k ∷ l ∷ [] → k ≡ bit lowers → l ≡ count
+      → a ≡ foundNumbers (accepted (record { lowers = lowers; count = count }))
+  unfolding foundNumbers
+  found-accepted lowers e ek el = cc
+
   -- ---- the answer is the one that its arm matched
 
   pub conversion-told : {r s : Conversion} → r ≡ s → a ≡ numbers (roundless (conversionOf s)) → a ≡ numbers (roundless (conversionOf r))
@@ -50,6 +74,9 @@ module _ {a : List ℕ} where
   pub validate-told : {r s : ValidateAnswer} → r ≡ s → a ≡ verdictNumbers (validateOf s) → a ≡ verdictNumbers (validateOf r)
   validate-told q e = rw q e
 
+  pub propagation-told : {r s : Propagation} → r ≡ s → a ≡ foundNumbers (propagationOf s) → a ≡ foundNumbers (propagationOf r)
+  propagation-told q e = rw q e
+
   -- ---- the answer is that of the call
 
   pub conversion-sent : (x y : Outcome ℕ) → a ≡ numbers (roundless x) → x ≡ y → a ≡ numbers (roundless y)
@@ -57,6 +84,9 @@ module _ {a : List ℕ} where
 
   pub handed-sent : (x y : Outcome Handed) → a ≡ numbers x → x ≡ y → a ≡ numbers y
   handed-sent x y e q = e ∙ ap numbers q
+
+  pub found-sent : (x y : Outcome Found) → a ≡ foundNumbers x → x ≡ y → a ≡ foundNumbers y
+  found-sent x y e q = e ∙ ap foundNumbers q
 
   pub verdict-sent : (x y : Outcome Answer) → a ≡ verdictNumbers x → x ≡ y → a ≡ verdictNumbers y
   verdict-sent x y e q = e ∙ ap verdictNumbers q

@@ -5,7 +5,8 @@ use mathlib.Core.List.{List, [], _∷_, _++_}
 use lib.ListN.{length, drop}
 use Rattle.orm.specs.Outcome.{Outcome, Sized, bufferAfter, lengthOf, written, handedBack}
 use Rattle.orm.specs.Calls.{validateCall}
-use Rattle.capi.specs.Answers.{numbers, roundless, verdictNumbers}
+use Rattle.orm.specs.SingleLimits.{startCall, lowerCall, surveyCall, boundsOf, foundOf}
+use Rattle.capi.specs.Answers.{numbers, roundless, foundNumbers, verdictNumbers}
 pub mod Laws
 
 -- Reading or writing that ends so; and check or populating
@@ -20,6 +21,17 @@ pub record Settled (o : Outcome Sized) (four before after : List ℕ) : Type 0 w
 -- Validating
 abbrev pub HasValidated : List ℕ → List ℕ → List ℕ → Type 0
 HasValidated t cells four = four ≡ verdictNumbers (validateCall t cells)
+
+-- The starting upper bounds; one limit put to use; and whether any lowers a bound
+abbrev pub HasStarted : List ℕ → List ℕ → List ℕ → List ℕ → Type 0
+HasStarted t four before after = Converted (startCall t (length before)) four before after
+
+pub record HasLowered (t : List ℕ) (number : ℕ) (four before after : List ℕ) : Type 0 where
+  pub answer : four ≡ foundNumbers (foundOf (lowerCall t number before))
+  pub array : after ≡ bufferAfter (boundsOf (lowerCall t number before)) before
+
+abbrev pub HasSurveyed : List ℕ → List ℕ → List ℕ → Type 0
+HasSurveyed t sizes four = four ≡ foundNumbers (surveyCall t sizes)
 
 -- Accepted by reading or writing: the result stands at the front of the array
 pub record Gives (result four before after : List ℕ) : Type 0 where

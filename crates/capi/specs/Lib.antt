@@ -1,7 +1,9 @@
 pub mod Answers
 pub mod Told
 pub mod Accepted
+pub mod Emptied
 pub mod Ended
 pub mod Subtypes
 pub mod SubtypeRanges
 pub mod RoleLimits
+pub mod Sequences

@@ -7,13 +7,16 @@ ghost use mathlib.Core.List.{[], _∷_};
 ghost use lib.ListN.{length};
 ghost use Rattle.orm.specs.Outcome.{lengthOf, bufferAfter, written, handedBack};
 ghost use Rattle.orm.specs.Calls.{readCall, checkCall, populateCall, validateCall, writeCall};
+ghost use Rattle.orm.specs.SingleLimits.{startCall, lowerCall, surveyCall, boundsOf, foundOf};
+ghost use Rattle.counting.specs.Totals.{bit};
 ghost use Rattle.grammar.specs.Fault.{numberOf};
 ghost use Rattle.reader.specs.Answer.{conversionOf};
 ghost use Rattle.bounds.specs.Answer.{settlementOf};
 ghost use Rattle.populate.specs.Answer.{cellsOf};
 ghost use Rattle.populate.specs.Demand3.{settledSizes};
 ghost use Rattle.validator.specs.Outcomes.{validateOf};
-ghost use Rattle.capi.specs.Answers.{numbers, roundless, verdictNumbers};
+ghost use Rattle.propagation.specs.Answer.{propagationOf};
+ghost use Rattle.capi.specs.Answers.{numbers, roundless, foundNumbers, verdictNumbers};
 ghost use Rattle.capi.specs.Told.{Told, ToldRead};
 
 fn of_size(x: usize) -> u64
@@ -32,6 +35,12 @@ fn of_u32(x: u32) -> u64
     ensures { λ r. ⌜ r ≡ x ⌝ }
 {
     x as u64
+}
+
+fn of_bool(x: bool) -> u64
+    ensures { λ r. ⌜ r ≡ bit x ⌝ }
+{
+    if x { 1 } else { 0 }
 }
 
 fn store(answer: &mut [u64; 4], number: u64, place: u64, round: u64, length: u64)
@@ -67,6 +76,22 @@ fn store_settlement(answer: &mut [u64; 4], outcome: bounds::Settlement)
         bounds::Settlement::TooShort { needed } => store(answer, 8, of_size(needed), 0, 0),
         bounds::Settlement::Accepted { length, rounds } => {
             store(answer, 0, 0, of_u32(rounds), of_size(length))
+        }
+    }
+}
+
+// For the calls that put single limits to use, or ask whether any would lower a bound.
+fn store_propagation(answer: &mut [u64; 4], outcome: propagation::Propagation)
+    ensures { λ _. ⌜ now (answer .exit) ≡ foundNumbers (propagationOf outcome) ⌝ }
+{
+    match outcome {
+        propagation::Propagation::Refused { fault, line } => {
+            store(answer, number_of(fault), of_size(line), 0, 0)
+        }
+        propagation::Propagation::NoLimit { number } => store(answer, 10, of_u32(number), 0, 0),
+        propagation::Propagation::TooShort { needed } => store(answer, 8, of_size(needed), 0, 0),
+        propagation::Propagation::Accepted { lowers, count } => {
+            store(answer, 0, 0, of_bool(lowers), of_size(count))
         }
     }
 }
@@ -136,4 +161,38 @@ pub extern "C" fn legshorgan_write(table: &[u32], text: &mut [u8], answer: &mut 
 {
     let outcome = writer::write(table, text);
     store_conversion(answer, outcome);
+}
+
+// The upper bounds of the sets of a table's diagram that the rounds start from, in set order.
+#[no_mangle]
+pub extern "C" fn legshorgan_start(table: &[u32], sizes: &mut [u32], answer: &mut [u64; 4])
+    ensures { λ _. ⌜ now (answer .exit) ≡ numbers (roundless (lengthOf (startCall (now (table .entry)) (length (now (sizes .entry)))))) ⌝ }
+    ensures { λ _. ⌜ now (sizes .exit) ≡ bufferAfter (startCall (now (table .entry)) (length (now (sizes .entry)))) (now (sizes .entry)) ⌝ }
+{
+    let outcome = propagation::start(table, sizes);
+    store_conversion(answer, outcome);
+}
+
+// Puts the limit of a table's diagram with this number to use on the upper bounds at the front of `sizes`.
+#[no_mangle]
+pub extern "C" fn legshorgan_lower(
+    table: &[u32],
+    number: u32,
+    sizes: &mut [u32],
+    answer: &mut [u64; 4],
+)
+    ensures { λ _. ⌜ now (answer .exit) ≡ foundNumbers (foundOf (lowerCall (now (table .entry)) number (now (sizes .entry)))) ⌝ }
+    ensures { λ _. ⌜ now (sizes .exit) ≡ bufferAfter (boundsOf (lowerCall (now (table .entry)) number (now (sizes .entry)))) (now (sizes .entry)) ⌝ }
+{
+    let outcome = propagation::lower(table, number, sizes);
+    store_propagation(answer, outcome);
+}
+
+// Whether any limit of a table's diagram lowers one of the upper bounds at the front of `sizes`.
+#[no_mangle]
+pub extern "C" fn legshorgan_survey(table: &[u32], sizes: &[u32], answer: &mut [u64; 4])
+    ensures { λ _. ⌜ now (answer .exit) ≡ foundNumbers (surveyCall (now (table .entry)) (now (sizes .entry))) ⌝ }
+{
+    let outcome = propagation::survey(table, sizes);
+    store_propagation(answer, outcome);
 }

@@ -18,19 +18,14 @@ use Rattle.orm.specs.Calls.{diagramIn, populationIn, readCall, writeCall, check
 use Rattle.orm.specs.Meaning.{Between}
 use Rattle.reading.specs.Exact.{written as lines}
 use Rattle.reading.specs.Cutting.{textForm, tableForm}
-use Rattle.guarantee.specs.Guarantee.{NoPopulation, Populated}
 use Rattle.guarantee.specs.Proof.{guarantee}
 use Rattle.guarantee.specs.RoleLimits.{TextKinds, TableLimits, Unchanged}
 use Rattle.guarantee.specs.RoleLimits.Proof.{role-limits}
-use Rattle.grammar.specs.Fault.{numberOf}
-use Rattle.grammar.specs.Laws.Faults.{few-faults}
-use Rattle.bounds.specs.Answer.{settlementOf}
-use Rattle.bounds.specs.declared.Settlement.{Settlement}
-use Rattle.bounds.specs.declared.Settlement.the-variants.{Refused, Unsatisfiable, TooShort, Accepted}
-use Rattle.populate.specs.Demand3.{TableOf, TextOf, Emptied, Making, Means, settledSizes}
+use Rattle.populate.specs.Demand3.{TableOf, TextOf, settledSizes}
 use Rattle.populate.specs.Tied.{table-accepted}
 use Rattle.capi.specs.Answers.{numbers, verdictNumbers}
 use Rattle.capi.specs.Told.{Told, ToldRead}
+use Rattle.capi.specs.Emptied.{emptied}
 use Rattle.capi.specs.Accepted.{same-diagram, told-written, told-table, role-size-written}
 use Rattle.capi.specs.Ended.{Converted, HasValidated}
 use Rattle.capi.specs.Ended.Laws.{converted, settled, converted-refused, settled-refused, converted-fits, converted-accepted, after-reading, named, says-yes}
@@ -59,41 +54,6 @@ covered : {t : List ℕ} (cells : List ℕ) {four : List ℕ} (x : TableOf t) �
 covered cells x has e o cut {k} {r} h =
     let (w, same) = says-yes cells x has e cut in
     subst (λ (y : Population). Between (r .rmin) (size (sizes (x .diagram) y) (firstRole (x .diagram) + k)) (r .rmax)) same (said x .covered w h)
-
--- ---- no population
-
--- what 7 tells
-told-emptied : {t four before after : List ℕ} {make : Making} → Told t make four before after → {set round : ℕ} → four ≡ 7 ∷ set ∷ round ∷ 0 ∷ []
-    → Emptied t set round before after
-unfolding numbers
-told-emptied {t} {four} {before} {after} {make} told {set} {round} e = go (told .answer) (told .numbered) (told .means)
-  where
-    go : (r : Settlement) → four ≡ numbers (settlementOf r) → Means t make r before after → Emptied t set round before after
-    go (Refused fault line) q m = let z : numberOf fault ≡ 7 = cc in absurd (omega (arith, few-faults fault))
-    go (Unsatisfiable s k) q m =
-        let same-set : set ≡ s = cc in
-        let same-round : round ≡ k = cc in
-        rw (same-set, same-round) m
-    go (TooShort needed) q m = let z : _≡_ {A = ℕ} 8 7 = cc in absurd (omega arith)
-    go (Accepted n made) q m = let z : _≡_ {A = ℕ} 0 7 = cc in absurd (omega arith)
-
-emptied : {t four before after : List ℕ} {make : Making} (x : TableOf t) → Told t make four before after
-    → ((set : ℕ) × (round : ℕ) × (four ≡ 7 ∷ set ∷ round ∷ 0 ∷ [])) ↔ NoPopulation (x .diagram)
-unfolding numbers
-emptied {t} {four} {before} {after} {make} x told = (
-  λ (set, round, e). subst NoPopulation (same-diagram (told-emptied told e .of) x) (told-emptied told e .none),
-  λ none. go none (told .answer) (told .numbered) (told .means),
-)
-  where
-    populated : NoPopulation (x .diagram) → (y : TableOf t) → ¬ Populated t (y .diagram)
-    populated none y p = subst NoPopulation (same-diagram x y) none _ (p .cells-meet)
-
-    go : NoPopulation (x .diagram) → (s : Settlement) → four ≡ numbers (settlementOf s) → Means t make s before after
-        → (set : ℕ) × (round : ℕ) × (four ≡ 7 ∷ set ∷ round ∷ 0 ∷ [])
-    go none (Refused fault line) q m = absurd (m .0 x)
-    go none (Unsatisfiable set round) q m = (set, round, q)
-    go none (TooShort needed) q m = absurd (populated none (m .of) (m .populated))
-    go none (Accepted n rounds) q m = absurd (populated none (m .of) (m .populated))
 
 -- ---- a file keeps its kind
 

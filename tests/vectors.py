@@ -1,10 +1,10 @@
 #!/usr/bin/env python3
-"""Makes data/ and stdout of the crates vectors_texts, vectors_tables and vectors_cells.
+"""Makes data/ and stdout of the crates vectors_texts, vectors_tables, vectors_cells and vectors_sequences.
 
-    python3 tests/vectors.py VECTORS CRATES
+    python3 tests/vectors.py VECTORS SEQUENCES CRATES
 
 VECTORS is the folder of cases with outcomes by other hands: texts.jsonl, tables.txt, cells.txt and slow.txt, with its
-outcome in README.md. CRATES is the folder of the crates. Each data file starts with the number of cases; crates/cases says
+outcome in README.md. SEQUENCES is the file of those for limits in any sequence, s13.txt. CRATES is the folder of the crates. Each data file starts with the number of cases; crates/cases says
 how a case is written. What is expected comes from VECTORS alone: no program of this repository is run.
 """
 
@@ -77,10 +77,15 @@ def cells(vectors):
     return data, [outcome(x, "broken", "refused") + "\n" for x in found]
 
 
+def sequences(path):
+    found = [x.split(" -> ") for x in lines(path)]
+    return [numbers(values(table)["table"]) for table, _ in found], [answer.replace(" ", ";") + ";\n" for _, answer in found]
+
+
 def main():
-    vectors, crates = map(pathlib.Path, sys.argv[1:])
-    for name, made in ("texts", texts(vectors)), ("tables", tables(vectors)), ("cells", cells(vectors)):
-        data, expected = made
+    vectors, file, crates = map(pathlib.Path, sys.argv[1:])
+    made = {"texts": texts(vectors), "tables": tables(vectors), "cells": cells(vectors), "sequences": sequences(file)}
+    for name, (data, expected) in made.items():
         crate = crates / f"vectors_{name}"
         (crate / "data").mkdir(parents=True, exist_ok=True)
         (crate / "data" / name).write_bytes(number(len(data)) + b"".join(data))

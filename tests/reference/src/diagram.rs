@@ -120,6 +120,11 @@ impl Diagram {
         self.preds.iter().map(|p| p.groups.len()).sum()
     }
 
+    /// The number of sets: "types, predicates, roles, groups".
+    pub fn count_sets(&self) -> usize {
+        self.types.len() + self.preds.len() + self.count_roles() + self.count_groups()
+    }
+
     /// Whether a role has this very type, which is given by its index.
     pub fn plays(&self, a: usize) -> bool {
         self.roles().any(|role| role.kind as usize == a + 1)

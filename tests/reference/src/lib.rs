@@ -1,10 +1,11 @@
-//! A second solution of document 01, amended by S-2, S-5 and S-8 of document
-//! 02, written from the documents alone, to compare others with. Quoted words
-//! in comments are from document 01 where no other is named.
+//! A second solution of document 01, amended by S-2, S-5, S-8 and S-13 of
+//! document 02, written from the documents alone, to compare others with.
+//! Quoted words in comments are from document 01 where no other is named.
 
 mod constraints;
 mod diagram;
 mod fill;
+mod limits;
 mod program;
 mod sizes;
 mod text;
@@ -17,8 +18,9 @@ pub mod foreign;
 pub use constraints::{validate, Verdict};
 pub use diagram::{form, role_width, Diagram, Group, Predicate, Role, Type};
 pub use fill::populate;
+pub use limits::{limits, lower, start, survey, Limit, Lowered, Survey, Value};
 pub use program::program;
-pub use sizes::{check, settle};
+pub use sizes::{check, round, settle};
 pub use text::{read, write};
 
 /// "A refusal carries its number, a place and a round (0 but for 7)".

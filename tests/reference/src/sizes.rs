@@ -17,7 +17,7 @@ fn floors(d: &Diagram) -> Vec<u32> {
 /// and predicate, MAX; role and group, 4096." That of a subtype which gives a
 /// range "is then also at most LAST - FIRST + 1" (document 02, S-5), and RMAX is
 /// "part of" a role's (S-8).
-fn starting(d: &Diagram) -> Vec<u32> {
+pub fn starting(d: &Diagram) -> Vec<u32> {
     let mut ceilings = Vec::new();
     for t in &d.types {
         let values = t.range().map(|(first, last)| last - first + 1);
@@ -30,8 +30,9 @@ fn starting(d: &Diagram) -> Vec<u32> {
 }
 
 /// "A round takes every new ceiling from the old ones of all sets: the least
-/// of the old ceiling and its limits." Products are at most 2 to the 72nd.
-fn round(d: &Diagram, old: &[u32], new: &mut [u32]) {
+/// of the old ceiling and its limits." Ceilings are at most 4096, products at
+/// most 2 to the 72nd.
+pub fn round(d: &Diagram, old: &[u32], new: &mut [u32]) {
     new.copy_from_slice(old);
     let mut lower = |set: usize, limit: u128| {
         if limit < u128::from(new[set]) {

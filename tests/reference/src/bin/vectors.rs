@@ -1,6 +1,9 @@
-//! Compares the reference with a folder of expected outcomes: `vectors FOLDER`.
+//! Compares the reference with expected outcomes: `vectors PATH ..`. A path is a
+//! folder with the files `texts.jsonl`, `tables.txt`, `cells.txt` and `slow.txt`,
+//! and with `s13.txt` if it is there; or one of these files alone.
 
-use reference::{form, program, validate, Refusal};
+use reference::random::Random;
+use reference::{check, form, lower, program, start, survey, validate, Refusal};
 use std::path::Path;
 
 /// The counts over one file; the first differences are printed.
@@ -104,17 +107,61 @@ fn cells_case(tally: &mut Tally, place: &str, line: &str) -> Option<()> {
     Some(())
 }
 
+/// Where the starting ceilings end by single limits in an order made from a
+/// seed, "carried on until no limit lowers any".
+fn ceilings(table: &[u32], seed: u64) -> Result<Vec<u32>, Refusal> {
+    let mut ceilings = vec![0; 208];
+    let sets = start(table, &mut ceilings)?;
+    ceilings.truncate(sets);
+    let count = survey(table, &ceilings)?.limits as u32;
+    let mut order: Vec<u32> = (0..count).collect();
+    let mut random = Random::new(seed);
+    while survey(table, &ceilings)?.lowers {
+        random.shuffle(&mut order);
+        for number in &order {
+            lower(table, *number, &mut ceilings)?;
+        }
+    }
+    Ok(ceilings)
+}
+
+/// The end "in set order; behind it what the check says of the diagram".
+fn s13_case(tally: &mut Tally, place: &str, line: &str) -> Option<()> {
+    let (input, expected) = line.split_once(" -> ")?;
+    let table = numbers(input, "table")?;
+    let found = match ceilings(&table, tally.cases as u64) {
+        Ok(ceilings) => {
+            let said = match check(&table, &mut [0; 208]) {
+                Ok(settled) => format!("rounds={}", settled.rounds),
+                Err(refusal) => refused(refusal),
+            };
+            let ceilings: Vec<String> = ceilings.iter().map(u32::to_string).collect();
+            format!("ceilings={} {said}", ceilings.join(","))
+        }
+        Err(refusal) => refused(refusal),
+    };
+    tally.case(place, expected, &found);
+    Some(())
+}
+
+/// A whole file as one case, with the outcome that its README gives.
+fn slow(path: &Path) -> std::io::Result<usize> {
+    let mut tally = Tally::default();
+    let output = program(&std::fs::read(path)?);
+    let found = String::from_utf8_lossy(&output).into_owned();
+    tally.case("slow.txt", "refused=7,144,454828\n", &found);
+    println!("slow.txt: 1 cases, {} differences", tally.differences);
+    Ok(tally.differences)
+}
+
 /// Runs one case for each line of a file.
-fn file(
-    folder: &Path,
+fn lines(
+    path: &Path,
     name: &str,
     case: fn(&mut Tally, &str, &str) -> Option<()>,
 ) -> std::io::Result<usize> {
     let mut tally = Tally::default();
-    for (i, line) in std::fs::read_to_string(folder.join(name))?
-        .lines()
-        .enumerate()
-    {
+    for (i, line) in std::fs::read_to_string(path)?.lines().enumerate() {
         let place = format!("{name} line {}", i + 1);
         if case(&mut tally, &place, line).is_none() {
             tally.case(&place, "a readable case", "a line of another form");
@@ -127,17 +174,35 @@ fn file(
     Ok(tally.differences)
 }
 
+/// Runs a file by its name; how many outcomes differ.
+fn file(path: &Path) -> std::io::Result<usize> {
+    match path.file_name().and_then(|name| name.to_str()) {
+        Some(name @ "texts.jsonl") => lines(path, name, text_case),
+        Some(name @ "tables.txt") => lines(path, name, table_case),
+        Some(name @ "cells.txt") => lines(path, name, cells_case),
+        Some(name @ "s13.txt") => lines(path, name, s13_case),
+        Some("slow.txt") => slow(path),
+        _ => Err(std::io::Error::other("no file of cases has this name")),
+    }
+}
+
 fn main() -> std::io::Result<()> {
-    let folder = std::env::args().nth(1).expect("vectors FOLDER");
-    let folder = Path::new(&folder);
-    let mut differences = file(folder, "texts.jsonl", text_case)?;
-    differences += file(folder, "tables.txt", table_case)?;
-    differences += file(folder, "cells.txt", cells_case)?;
-    let slow = program(&std::fs::read(folder.join("slow.txt"))?);
-    let mut tally = Tally::default();
-    let found = String::from_utf8_lossy(&slow).into_owned();
-    tally.case("slow.txt", "refused=7,144,454828\n", &found);
-    println!("slow.txt: 1 cases, {} differences", tally.differences);
-    differences += tally.differences;
+    let mut differences = 0;
+    let mut paths = std::env::args().skip(1).peekable();
+    paths.peek().expect("vectors PATH ..");
+    for path in paths {
+        let path = Path::new(&path);
+        if !path.is_dir() {
+            differences += file(path)?;
+            continue;
+        }
+        for name in ["texts.jsonl", "tables.txt", "cells.txt", "slow.txt"] {
+            differences += file(&path.join(name))?;
+        }
+        let limits = path.join("s13.txt");
+        if limits.exists() {
+            differences += file(&limits)?;
+        }
+    }
     std::process::exit(i32::from(differences > 0));
 }

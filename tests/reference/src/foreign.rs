@@ -43,6 +43,28 @@ extern "C" {
         cells_length: usize,
         answer: *mut u64,
     );
+    fn legshorgan_start(
+        table: *const u32,
+        table_length: usize,
+        sizes: *mut u32,
+        sizes_length: usize,
+        answer: *mut u64,
+    );
+    fn legshorgan_lower(
+        table: *const u32,
+        table_length: usize,
+        number: u32,
+        sizes: *mut u32,
+        sizes_length: usize,
+        answer: *mut u64,
+    );
+    fn legshorgan_survey(
+        table: *const u32,
+        table_length: usize,
+        sizes: *const u32,
+        sizes_length: usize,
+        answer: *mut u64,
+    );
 }
 
 /// A wrapper around one call with an input and lent space.
@@ -70,3 +92,22 @@ call!(check, legshorgan_check, u32, &mut [u32], as_mut_ptr);
 call!(populate, legshorgan_populate, u32, &mut [u32], as_mut_ptr);
 call!(write, legshorgan_write, u32, &mut [u8], as_mut_ptr);
 call!(validate, legshorgan_validate, u32, &[u32], as_ptr);
+call!(start, legshorgan_start, u32, &mut [u32], as_mut_ptr);
+call!(survey, legshorgan_survey, u32, &[u32], as_ptr);
+
+/// The one call that takes a number beside its input.
+pub fn lower(table: &[u32], number: u32, sizes: &mut [u32]) -> Answer {
+    let mut answer = [UNANSWERED; 4];
+    // SAFETY: every pointer is given with the length of its slice.
+    unsafe {
+        legshorgan_lower(
+            table.as_ptr(),
+            table.len(),
+            number,
+            sizes.as_mut_ptr(),
+            sizes.len(),
+            answer.as_mut_ptr(),
+        );
+    }
+    answer
+}

@@ -20,7 +20,7 @@ pub use diagram::{form, role_width, Diagram, Group, Predicate, Role, Type};
 pub use fill::populate;
 pub use limits::{limits, lower, start, survey, Limit, Lowered, Survey, Value};
 pub use program::program;
-pub use sizes::{check, round, settle};
+pub use sizes::{check, floors, round, settle, starting};
 pub use text::{read, write};
 
 /// "A refusal carries its number, a place and a round (0 but for 7)".

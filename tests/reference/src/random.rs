@@ -1,7 +1,8 @@
-//! Seeded random inputs: diagrams, damaged texts, tables and cells, and
-//! lengths of lent space.
+//! Seeded random inputs: diagrams, damaged texts, tables and cells, ceilings
+//! and numbers of limits, and lengths of lent space.
 
-use crate::{role_width, settle, Diagram, Group, Predicate, Role, Type};
+use crate::{limits, role_width, round, settle, starting};
+use crate::{Diagram, Group, Limit, Predicate, Role, Type, Value};
 
 /// A splitmix generator: the same seed gives the same inputs.
 pub struct Random {
@@ -1279,6 +1280,134 @@ pub fn cells(random: &mut Random, d: &Diagram, filled: &[u32]) -> Vec<u32> {
         }
     }
     parts.cells()
+}
+
+/// "The ceilings standing after n rounds", where a round before lowers nothing.
+pub fn ended(d: &Diagram, n: usize) -> Option<Vec<u32>> {
+    let mut old = starting(d);
+    let mut new = old.clone();
+    for _ in 0..n {
+        round(d, &old, &mut new);
+        if new == old {
+            return Some(new);
+        }
+        std::mem::swap(&mut old, &mut new);
+    }
+    None
+}
+
+/// A diagram whose ceilings end soon, and where they end: so many limits are
+/// examined at most.
+pub fn ending_diagram(random: &mut Random, most: usize) -> (Diagram, Vec<u32>) {
+    loop {
+        let d = diagram(random);
+        if let Some(end) = ended(&d, most / limits(&d).len()) {
+            return (d, end);
+        }
+    }
+}
+
+/// The starting ceilings after some limits in random order.
+fn lowered(random: &mut Random, d: &Diagram) -> Vec<u32> {
+    let limits = limits(d);
+    let mut ceilings = starting(d);
+    for _ in 0..random.below(3 * limits.len()) {
+        limits[random.below(limits.len())].lower(&mut ceilings);
+    }
+    ceilings
+}
+
+/// Ceilings of a diagram's sets: those of the start, on the way from there, at
+/// the end, and any numbers, small ones, large ones and such whose product has
+/// only zeros in its lowest bits. In half of the cases some are altered.
+pub fn ceilings(random: &mut Random, d: &Diagram) -> Vec<u32> {
+    let mut ceilings = match random.below(16) {
+        0..2 => starting(d),
+        2..6 => lowered(random, d),
+        6..10 => ended(d, 200).unwrap_or_else(|| lowered(random, d)),
+        how => {
+            let most = random.pick(&[1, 3, 12]);
+            let number = |_| match how {
+                10..12 => random.between(0, most),
+                12 => random.bits() as u32 >> random.below(32),
+                13 => 1 << random.below(32),
+                14 => random.pick(&[0, 1, 65_535, 65_536, 1 << 31, u32::MAX, u32::MAX]),
+                _ => u32::MAX - random.between(0, 2),
+            };
+            (0..d.count_sets()).map(number).collect()
+        }
+    };
+    if random.chance(50) {
+        for _ in 0..random.pick(&[1, 1, 2, 6]) {
+            let at = random.below(ceilings.len());
+            ceilings[at] = match random.chance(20) {
+                true => 1 << random.below(32),
+                false => other_number(random, ceilings[at]),
+            };
+        }
+    }
+    ceilings
+}
+
+/// The sets whose ceilings are multiplied or added up.
+fn operands(limit: &Limit) -> &[usize] {
+    match &limit.value {
+        Value::Times(_, set) => std::slice::from_ref(set),
+        Value::Product(sets) | Value::Sum(sets) => sets,
+        _ => &[],
+    }
+}
+
+/// The number of a limit with operands, often with the most of them; its value
+/// becomes about 32, 64, 128 or more bits long, in some cases with a 0 among its
+/// factors, and the ceiling of its set any number.
+pub fn widen(random: &mut Random, limits: &[Limit], ceilings: &mut [u32]) -> Option<u32> {
+    let most = limits.iter().map(|limit| operands(limit).len()).max()?;
+    let least = random.pick(&[1, 2, most, most]).min(most);
+    let wide = |number: &usize| operands(&limits[*number]).len() >= least;
+    let wide: Vec<usize> = (0..limits.len()).filter(wide).collect();
+    let number = random.pick(&wide);
+    let limit = &limits[number];
+    ceilings[limit.set] = random.bits() as u32 >> random.below(32);
+    let power = random.pick(&[8, 11, 16, 16, 22, 26, 31]);
+    let zeros = random.chance(30);
+    for set in operands(limit) {
+        ceilings[*set] = match random.below(10) {
+            0 if zeros => 0,
+            1 => random.bits() as u32,
+            2 => u32::MAX,
+            _ => 1 << power,
+        };
+    }
+    Some(number as u32)
+}
+
+/// A limit's number: mostly one of so many, often the last, or past it, also by
+/// one bit alone.
+pub fn limit_number(random: &mut Random, count: usize) -> u32 {
+    let count = count as u32;
+    match random.below(20) {
+        0..13 => random.between(0, count - 1),
+        13 => random.between(0, count - 1) | 1 << random.between(8, 31),
+        14..16 => count - 1,
+        16 => count,
+        17 => count + random.between(0, 9),
+        18 => other_number(random, count),
+        _ => u32::MAX,
+    }
+}
+
+/// Lent space with these numbers at its front: just long enough, longer with
+/// anything behind them, or too short for all of them.
+pub fn lent_with(random: &mut Random, mut numbers: Vec<u32>) -> Vec<u32> {
+    let length = match random.below(10) {
+        0..4 => numbers.len(),
+        4..8 => numbers.len() + 1 + random.below(9),
+        _ => lent(random, numbers.len()),
+    };
+    numbers.truncate(length);
+    numbers.resize_with(length, || random.bits() as u32);
+    numbers
 }
 
 /// A lent length for a result: enough, one too short, none, more. Any length

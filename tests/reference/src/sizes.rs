@@ -5,7 +5,7 @@ use crate::{lend, Refusal, Settled};
 
 /// "Floor: MIN for types and predicates, else 1." RMIN becomes "the role's
 /// floor" (document 02, S-8).
-fn floors(d: &Diagram) -> Vec<u32> {
+pub fn floors(d: &Diagram) -> Vec<u32> {
     let mut floors: Vec<u32> = d.types.iter().map(|t| t.min).collect();
     floors.extend(d.preds.iter().map(|p| p.min));
     floors.extend(d.roles().map(|role| role.rmin));

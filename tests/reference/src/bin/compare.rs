@@ -11,12 +11,15 @@
 //! If the archive brings a panic handler of its own, which then stands twice,
 //! add `-C link-arg=-Wl,--allow-multiple-definition` to RUSTFLAGS.
 //!
-//! An input is one call with its lent space. The answers and every lent number
-//! or byte afterwards must agree. Input i depends on the seed and i alone.
+//! An input is one call with its lent space, or a sequence of single limits from
+//! the start to the end. The answers and every lent number or byte afterwards
+//! must agree. Input i depends on the seed and i alone. Each fourth input is of
+//! the calls for single limits.
 
 use reference::foreign::{self, Answer};
 use reference::random::{self, Random};
-use reference::{form, Refusal, Settled, Verdict};
+use reference::{check, floors, form, limits, starting};
+use reference::{Lowered, Refusal, Settled, Survey, Verdict};
 use std::collections::BTreeMap;
 use std::fmt::Debug;
 use std::time::Instant;
@@ -43,6 +46,18 @@ fn settled(result: Result<Settled, Refusal>) -> Answer {
 
 fn verdict(result: Result<Verdict, Refusal>) -> Answer {
     let answer = |v: Verdict| [0, 0, u64::from(v.constraint), u64::from(v.number)];
+    result.map_or_else(refused, answer)
+}
+
+/// "1 if it lowered the bound", "the number of sets".
+fn lowered(result: Result<Lowered, Refusal>) -> Answer {
+    let answer = |step: Lowered| [0, 0, u64::from(step.lowered), step.sets as u64];
+    result.map_or_else(refused, answer)
+}
+
+/// "1 if some limit lowers a bound", "the number of limits".
+fn surveyed(result: Result<Survey, Refusal>) -> Answer {
+    let answer = |said: Survey| [0, 0, u64::from(said.lowers), said.limits as u64];
     result.map_or_else(refused, answer)
 }
 
@@ -151,9 +166,7 @@ impl Compare {
         let table = self.table(random, 80);
         let ours = |table: &[u32], sizes: &mut [u32]| settled(reference::check(table, sizes));
         // The number of sets, also where one of them is emptied.
-        let wanted = form(&table).map_or(0, |d| {
-            d.types.len() + d.preds.len() + d.count_roles() + d.count_groups()
-        });
+        let wanted = form(&table).map_or(0, |d| d.count_sets());
         let lent = random::lent(random, wanted);
         let lent = random::pattern(random, lent, |bits| bits as u32);
         self.lent_call("check", &table, lent, ours, foreign::check);
@@ -212,6 +225,165 @@ impl Compare {
         *self.outcomes.entry(("validate", outcome)).or_default() += 1;
     }
 
+    fn start(&mut self, random: &mut Random) {
+        let table = self.table(random, 80);
+        let ours = |table: &[u32], sizes: &mut [u32]| length(reference::start(table, sizes));
+        let wanted = needed(ours(&table, &mut []));
+        let lent = random::lent(random, wanted);
+        let lent = random::pattern(random, lent, |bits| bits as u32);
+        self.lent_call("start", &table, lent, ours, foreign::start);
+    }
+
+    /// A table and lent space with ceilings of its sets, if it is valid, with any
+    /// numbers else; and the number of a limit, often of one that lowers.
+    fn kept(&mut self, random: &mut Random) -> (Vec<u32>, Vec<u32>, u32) {
+        let table = self.table(random, 90);
+        let Ok(d) = form(&table) else {
+            let length = random.below(30);
+            let any = random::pattern(random, length, |bits| bits as u32);
+            return (table, any, random::limit_number(random, 12));
+        };
+        let (all, mut ceilings) = (limits(&d), random::ceilings(random, &d));
+        if random.chance(15) {
+            if let Some(number) = random::widen(random, &all, &mut ceilings) {
+                return (table, random::lent_with(random, ceilings), number);
+            }
+        }
+        let lowers = |number: &usize| all[*number].lowers(&ceilings);
+        let lowering: Vec<usize> = (0..all.len()).filter(lowers).collect();
+        let number = match !lowering.is_empty() && random.chance(40) {
+            true => random.pick(&lowering) as u32,
+            false => random::limit_number(random, all.len()),
+        };
+        (table, random::lent_with(random, ceilings), number)
+    }
+
+    fn lower(&mut self, random: &mut Random) {
+        let (table, lent, number) = self.kept(random);
+        self.place += &format!(", limit {number}");
+        let ours =
+            |table: &[u32], sizes: &mut [u32]| lowered(reference::lower(table, number, sizes));
+        let theirs = |table: &[u32], sizes: &mut [u32]| foreign::lower(table, number, sizes);
+        let (answer, _) = self.lent_call("lower", &table, lent, ours, theirs);
+        if answer[2] == 1 {
+            self.count("lower", "accepted, lowered");
+        }
+    }
+
+    fn survey(&mut self, random: &mut Random) {
+        let (table, lent, _) = self.kept(random);
+        let ours = |table: &[u32], sizes: &mut [u32]| surveyed(reference::survey(table, sizes));
+        let theirs = |table: &[u32], sizes: &mut [u32]| foreign::survey(table, sizes);
+        let (answer, _) = self.lent_call("survey", &table, lent, ours, theirs);
+        if answer[2] == 1 {
+            self.count("survey", "accepted, some lower");
+        }
+    }
+
+    /// A sequence by the library, from the start until its survey says that no
+    /// limit lowers any. Each step must agree, and the end must be that of the
+    /// rounds: the settled sizes, or below a floor where the check refuses.
+    fn sequence(&mut self, random: &mut Random) {
+        let (d, end) = random::ending_diagram(random, 4000);
+        let (table, all) = (d.table(), limits(&d));
+        let behind = random.below(4);
+        let lent = random::pattern(random, d.count_sets() + behind, |bits| bits as u32);
+        let mut their = lent.clone();
+        let answer = foreign::start(&table, &mut their);
+        let mut our = [starting(&d), lent[end.len()..].to_vec()].concat();
+        self.step(
+            "start",
+            &table,
+            (&length(Ok(end.len())), &our),
+            (&answer, &their),
+        );
+        let mut order: Vec<usize> = (0..all.len()).collect();
+        let how = random.below(4);
+        loop {
+            let lowers = all.iter().any(|limit| limit.lowers(&our));
+            let (ours, answer) = (
+                [0, 0, u64::from(lowers), all.len() as u64],
+                foreign::survey(&table, &their),
+            );
+            self.step("survey", &table, (&ours, &our), (&answer, &their));
+            if answer[2] == 0 {
+                break;
+            }
+            match how {
+                0 => random.shuffle(&mut order),
+                1 => order.fill_with(|| random.below(all.len())),
+                2 => order.rotate_left(1),
+                _ => order.reverse(),
+            }
+            for number in &order {
+                let lowered = all[*number].lower(&mut our);
+                let ours = [0, 0, u64::from(lowered), end.len() as u64];
+                let answer = foreign::lower(&table, *number as u32, &mut their);
+                let name = format!("lower by limit {number}");
+                self.step(&name, &table, (&ours, &our), (&answer, &their));
+            }
+        }
+        let mut sizes = vec![0; end.len()];
+        let outcome = match check(&table, &mut sizes) {
+            Ok(_) => "settled",
+            Err(_) => "below a floor",
+        };
+        let below = floors(&d).iter().zip(&their).any(|(floor, c)| c < floor);
+        let agrees = match outcome {
+            "settled" => sizes == their[..end.len()] && !below,
+            _ => below,
+        };
+        self.round_trip("the end of a sequence", &end, &their[..end.len()]);
+        if !agrees {
+            println!("difference in what the check says, {}", self.place);
+            println!("input     {}", u32::show(&table));
+            std::process::exit(1);
+        }
+        self.count("sequence", outcome);
+    }
+
+    /// One step of a sequence: the answers and all numbers agree.
+    fn step(&self, name: &str, table: &[u32], ours: (&Answer, &[u32]), theirs: (&Answer, &[u32])) {
+        if self.trace {
+            println!("{name} in a sequence, {}: {}", self.place, u32::show(table));
+        }
+        if ours != theirs {
+            println!("difference in {name} in a sequence, {}", self.place);
+            println!("input     {}", u32::show(table));
+            println!("reference {:?} {}", ours.0, u32::show(ours.1));
+            println!("library   {:?} {}", theirs.0, u32::show(theirs.1));
+            std::process::exit(1);
+        }
+    }
+
+    fn count(&mut self, name: &'static str, outcome: &str) {
+        *self
+            .outcomes
+            .entry((name, outcome.to_string()))
+            .or_default() += 1;
+    }
+
+    /// One of the calls for single limits.
+    fn limit_input(&mut self, random: &mut Random) {
+        match random.below(20) {
+            0..2 => self.start(random),
+            2..12 => self.lower(random),
+            12..18 => self.survey(random),
+            _ => self.sequence(random),
+        }
+    }
+
+    /// One of the other calls.
+    fn input(&mut self, random: &mut Random) {
+        match random.below(10) {
+            0..2 => self.read(random),
+            2 => self.write(random),
+            3..5 => self.check(random),
+            5..7 => self.populate(random),
+            _ => self.validate(random),
+        }
+    }
+
     /// A valid table in so many of a hundred cases, else a damaged one.
     fn table(&mut self, random: &mut Random, percent: usize) -> Vec<u32> {
         match random.chance(percent) {
@@ -219,6 +391,11 @@ impl Compare {
             false => random::damaged_table(random),
         }
     }
+}
+
+/// The generator for the input with this number.
+fn nth(seed: u64, i: u64) -> Random {
+    Random::new(Random::new(seed).bits() ^ Random::new(i).bits())
 }
 
 fn main() {
@@ -238,13 +415,10 @@ fn main() {
     let start = Instant::now();
     for i in 0..count {
         compare.place = format!("seed {seed}, input {i}");
-        let mut random = Random::new(Random::new(seed).bits() ^ Random::new(i).bits());
-        match random.below(10) {
-            0..2 => compare.read(&mut random),
-            2 => compare.write(&mut random),
-            3..5 => compare.check(&mut random),
-            5..7 => compare.populate(&mut random),
-            _ => compare.validate(&mut random),
+        // Each fourth is of single limits; the others count without them.
+        match i % 4 {
+            3 => compare.limit_input(&mut nth(!seed, i / 4)),
+            rest => compare.input(&mut nth(seed, i / 4 * 3 + rest)),
         }
     }
     let rate = count as f64 / start.elapsed().as_secs_f64();

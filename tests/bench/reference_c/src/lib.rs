@@ -102,3 +102,57 @@ pub unsafe extern "C" fn reference_validate(
         [0, 0, u64::from(v.constraint), u64::from(v.number)]
     });
 }
+
+/// # Safety
+/// The pointers are as include/legshorgan.h says.
+#[no_mangle]
+pub unsafe extern "C" fn reference_start(
+    table: *const u32,
+    table_length: usize,
+    sizes: *mut u32,
+    sizes_length: usize,
+    answer: *mut [u64; 4],
+) {
+    let (table, sizes) = (
+        from_raw_parts(table, table_length),
+        from_raw_parts_mut(sizes, sizes_length),
+    );
+    *answer = written(reference::start(table, sizes));
+}
+
+/// # Safety
+/// The pointers are as include/legshorgan.h says.
+#[no_mangle]
+pub unsafe extern "C" fn reference_lower(
+    table: *const u32,
+    table_length: usize,
+    number: u32,
+    sizes: *mut u32,
+    sizes_length: usize,
+    answer: *mut [u64; 4],
+) {
+    let (table, sizes) = (
+        from_raw_parts(table, table_length),
+        from_raw_parts_mut(sizes, sizes_length),
+    );
+    let step = reference::lower(table, number, sizes);
+    *answer = step.map_or_else(refused, |s| [0, 0, u64::from(s.lowered), s.sets as u64]);
+}
+
+/// # Safety
+/// The pointers are as include/legshorgan.h says.
+#[no_mangle]
+pub unsafe extern "C" fn reference_survey(
+    table: *const u32,
+    table_length: usize,
+    sizes: *const u32,
+    sizes_length: usize,
+    answer: *mut [u64; 4],
+) {
+    let (table, sizes) = (
+        from_raw_parts(table, table_length),
+        from_raw_parts(sizes, sizes_length),
+    );
+    let said = reference::survey(table, sizes);
+    *answer = said.map_or_else(refused, |s| [0, 0, u64::from(s.lowers), s.limits as u64]);
+}

@@ -22,6 +22,8 @@ void reference_check(const uint32_t *, size_t, uint32_t *, size_t, uint64_t[4]);
 void reference_populate(const uint32_t *, size_t, uint32_t *, size_t, uint64_t[4]);
 void reference_write(const uint32_t *, size_t, uint8_t *, size_t, uint64_t[4]);
 void reference_validate(const uint32_t *, size_t, const uint32_t *, size_t, uint64_t[4]);
+void reference_lower(const uint32_t *, size_t, uint32_t, uint32_t *, size_t, uint64_t[4]);
+void reference_survey(const uint32_t *, size_t, const uint32_t *, size_t, uint64_t[4]);
 
 struct version {
     const char *name;
@@ -30,24 +32,29 @@ struct version {
     void (*populate)(const uint32_t *, size_t, uint32_t *, size_t, uint64_t[4]);
     void (*write)(const uint32_t *, size_t, uint8_t *, size_t, uint64_t[4]);
     void (*validate)(const uint32_t *, size_t, const uint32_t *, size_t, uint64_t[4]);
+    void (*lower)(const uint32_t *, size_t, uint32_t, uint32_t *, size_t, uint64_t[4]);
+    void (*survey)(const uint32_t *, size_t, const uint32_t *, size_t, uint64_t[4]);
 };
 
 enum { LIBRARY, BASELINE, REFERENCE, VERSIONS };
 
 static const struct version versions[VERSIONS] = {
-    {"library", legshorgan_read, legshorgan_check, legshorgan_populate, legshorgan_write, legshorgan_validate},
-    {"c", baseline_read, baseline_check, baseline_populate, baseline_write, baseline_validate},
-    {"rust", reference_read, reference_check, reference_populate, reference_write, reference_validate},
+    {"library", legshorgan_read, legshorgan_check, legshorgan_populate, legshorgan_write, legshorgan_validate,
+     legshorgan_lower, legshorgan_survey},
+    {"c", baseline_read, baseline_check, baseline_populate, baseline_write, baseline_validate,
+     baseline_lower, baseline_survey},
+    {"rust", reference_read, reference_check, reference_populate, reference_write, reference_validate,
+     reference_lower, reference_survey},
 };
 
-enum call { READ, CHECK, POPULATE, WRITE, VALIDATE };
+enum call { READ, CHECK, POPULATE, WRITE, VALIDATE, LOWER, SURVEY };
 
-static const char *const call_names[] = {"read", "check", "populate", "write", "validate"};
+static const char *const call_names[] = {"read", "check", "populate", "write", "validate", "lower", "survey"};
 
 /* What is counted of a row. */
-enum unit { BYTES, ROUNDS, CELLS };
+enum unit { BYTES, ROUNDS, CELLS, SETS, LIMITS };
 
-static const char *const unit_names[] = {"bytes", "rounds", "cells"};
+static const char *const unit_names[] = {"bytes", "rounds", "cells", "sets", "limits"};
 
 struct row {
     const char *diagram;
@@ -63,6 +70,7 @@ static const struct row rows[] = {
     {"rows", POPULATE, CELLS}, {"rows", VALIDATE, CELLS},  {"lowered", CHECK, ROUNDS},
     {"limited", READ, BYTES},  {"limited", CHECK, ROUNDS}, {"limited", POPULATE, CELLS}, {"limited", VALIDATE, CELLS},
     {"limited", WRITE, BYTES},
+    {"sample", LOWER, SETS},   {"sample", SURVEY, LIMITS}, {"full", LOWER, SETS},       {"full", SURVEY, LIMITS},
 };
 
 enum { ROW_COUNT = sizeof rows / sizeof *rows };
@@ -70,6 +78,7 @@ enum { ROW_COUNT = sizeof rows / sizeof *rows };
 static uint8_t text[8192];
 static size_t text_length, table_length, cells_length;
 static uint32_t table[LEGSHORGAN_MOST_TABLE], cells[LEGSHORGAN_MOST_CELLS];
+static uint32_t bounds[LEGSHORGAN_MOST_SIZES], last_limit;
 
 /* The result of a call of each version. */
 static struct result {
@@ -109,9 +118,29 @@ static void load_cells(void) {
     cells_length = answer[3];
 }
 
+static bool is_single(enum call call) {
+    return call == LOWER || call == SURVEY;
+}
+
+/* The upper bounds that the rounds start from, and the number of its last limit. */
+static void load_bounds(void) {
+    uint64_t answer[4];
+    baseline_start(table, table_length, bounds, LEGSHORGAN_MOST_SIZES, answer);
+    if (answer[0] != 0) fail("refused", "start");
+    baseline_survey(table, table_length, bounds, LEGSHORGAN_MOST_SIZES, answer);
+    last_limit = (uint32_t)answer[3] - 1;
+}
+
 static void load_row(const char *folder, const struct row *row) {
     load(folder, row->diagram);
     if (row->call == VALIDATE) load_cells();
+    if (is_single(row->call)) load_bounds();
+}
+
+/* What stands in a result before the first call: the bounds, where the call takes them from there. */
+static void prepare(enum call call, struct result *r) {
+    memset(r, 0x5a, sizeof *r);
+    if (is_single(call)) memcpy(r->sizes, bounds, sizeof bounds);
 }
 
 static void make_call(const struct version *v, enum call call, struct result *r) {
@@ -121,13 +150,17 @@ static void make_call(const struct version *v, enum call call, struct result *r)
     case POPULATE: v->populate(table, table_length, r->cells, LEGSHORGAN_MOST_CELLS, r->answer); break;
     case WRITE: v->write(table, table_length, r->text, LEGSHORGAN_MOST_TEXT, r->answer); break;
     case VALIDATE: v->validate(table, table_length, cells, cells_length, r->answer); break;
+    case LOWER: v->lower(table, table_length, last_limit, r->sizes, LEGSHORGAN_MOST_SIZES, r->answer); break;
+    case SURVEY: v->survey(table, table_length, r->sizes, LEGSHORGAN_MOST_SIZES, r->answer); break;
     }
 }
 
 static const void *written_by(enum call call, const struct result *r, size_t *bytes) {
     switch (call) {
     case READ: *bytes = sizeof r->table; return r->table;
-    case CHECK: *bytes = sizeof r->sizes; return r->sizes;
+    case CHECK:
+    case LOWER:
+    case SURVEY: *bytes = sizeof r->sizes; return r->sizes;
     case POPULATE: *bytes = sizeof r->cells; return r->cells;
     case WRITE: *bytes = sizeof r->text; return r->text;
     default: *bytes = 0; return r->answer;
@@ -138,7 +171,7 @@ static const void *written_by(enum call call, const struct result *r, size_t *by
 static bool agree(enum call call) {
     bool same = true;
     for (int v = 0; v < VERSIONS; v++) {
-        memset(&results[v], 0x5a, sizeof results[v]);
+        prepare(call, &results[v]);
         make_call(&versions[v], call, &results[v]);
         size_t bytes;
         const void *first = written_by(call, &results[0], &bytes), *other = written_by(call, &results[v], &bytes);
@@ -250,6 +283,7 @@ int main(int count, char **words) {
         const struct row *row = &rows[numbered(words[4], ROW_COUNT - 1)];
         size_t calls = numbered(words[5], 1000000);
         load_row(words[1], row);
+        if (is_single(row->call)) prepare(row->call, &results[v]);
         for (size_t i = 0; i < calls; i++) make_call(&versions[v], row->call, &results[v]);
         return 0;
     }

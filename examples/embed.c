@@ -5,7 +5,7 @@
 
 #include "legshorgan.h"
 
-static uint8_t text[4096]; /* every valid text is shorter */
+static uint8_t text[8192]; /* every valid text is shorter: LEGSHORGAN_MOST_TEXT bytes at most */
 static uint32_t table[LEGSHORGAN_MOST_TABLE], sizes[LEGSHORGAN_MOST_SIZES], cells[LEGSHORGAN_MOST_CELLS];
 static uint64_t answer[4];
 

@@ -16,6 +16,7 @@ use Rattle.counting.specs.Totals.{productOver}
 use Rattle.fixpoint.specs.Limits.{Limit, valueOf, lowered, loweredBy, lowers, round}
 use Rattle.lowering.specs.Sizes.{productOf, sumOf, largest}
 use Rattle.lowering.specs.Encoding.{exprOf, limitAt, decodeFrom, decode}
+use Rattle.lowering.specs.Laws.Decoding.{decode-more, decode-none}
 use Rattle.lowering.specs.Closed.{Start, first, behind, Among, Fed, Whole, Closed}
 
 module _ (old ss : List ℕ) (kind factor : ℕ) where
@@ -142,13 +143,12 @@ module _ (limits old : List ℕ) where
   -- a turn, with `m + 1` limits at most to come
   pub rest-more : (m at : ℕ) (new : List ℕ) → at + 4 ≤ length limits
       → restOf limits old (suc m) at new ≡ restOf limits old m (at + 4 + getD limits (at + 3) 0) (lowered old (limitAt limits at) new)
-  unfolding decodeFrom loweredBy
-  rest-more m at new h = rw (le-ltb (length limits) (at + 4) h, decodeFrom)
+  unfolding loweredBy
+  rest-more m at new h = ap (λ (ls : List Limit). loweredBy old ls new) (decode-more limits m at h)
 
   pub rest-none : (m at : ℕ) (new : List ℕ) → length limits < at + 4 → restOf limits old m at new ≡ new
-  unfolding decodeFrom loweredBy
-  rest-none zero at new h = refl
-  rest-none (suc m) at new h = rw (lt-ltb (length limits) (at + 4) h, decodeFrom)
+  unfolding loweredBy
+  rest-none m at new h = ap (λ (ls : List Limit). loweredBy old ls new) (decode-none limits m at h)
 
 -- At the index `at` of the limits the sizes are `new`, and the limits from there on lead to `goal`
 pub record Left (limits old : List ℕ) (at : ℕ) (new goal : List ℕ) : Type 0 where

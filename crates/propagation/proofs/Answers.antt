@@ -1,17 +1,15 @@
 -- How the calls end: their answers, and the buffers that they leave.
 use Prim.Native.Nat.{ℕ, _≤_, _<_}
 use native.Mathlib.Omega.{arith}
-use mathlib.Core.Path.{_≡_, refl, sym, ap, subst, _∙_}
-use mathlib.Core.Bool.{Bool, true, false}
+use mathlib.Core.Path.{_≡_, refl, sym, _∙_}
+use mathlib.Core.Bool.{Bool}
 use mathlib.Core.List.{List, _++_}
 use lib.ListN.{length, take, drop}
 use lib.Seq.{length-take-le}
 use Rattle.fixpoint.specs.Limits.{Limit, stepAt, lowersAt, anyLowers}
 use Rattle.fixpoint.specs.Laws.AnyOrder.{step-≼}
-use Rattle.orm.specs.Diagram.{Diagram}
 use Rattle.orm.specs.Text.{tableLine}
-use Rattle.orm.specs.Sets.{setCount, limits}
-use Rattle.orm.specs.Outcome.{refused, accepted, fitted, bufferAfter}
+use Rattle.orm.specs.Outcome.{fitted, bufferAfter}
 use Rattle.orm.specs.Calls.{diagramIn}
 use Rattle.orm.specs.SingleLimits.{startCall, lowerCall, surveyCall}
 use Rattle.orm.specs.Laws.SingleLimits.{number-there, number-none, front-there, front-short}

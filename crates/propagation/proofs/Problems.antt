@@ -10,14 +10,14 @@ use Rattle.orm.specs.Text.{tableLine}
 use Rattle.orm.specs.Sets.{setCount, lower, upper, limits}
 use Rattle.orm.specs.Outcome.{Outcome, refused, accepted, bufferAfter}
 use Rattle.orm.specs.Calls.{diagramIn}
-use Rattle.orm.specs.Laws.Bounds.{length-lower, bounds-paired, lower-few, upper-few, upper-sets}
+use Rattle.orm.specs.Laws.Bounds.{length-lower, lower-few, upper-few, upper-sets}
 use Rattle.grammar.specs.declared.Fault.{Fault}
 use Rattle.grammar.specs.Fault.{numberOf}
 use Rattle.widening.specs.Answer.{acceptanceOf, described, widened}
 use Rattle.widening.specs.Laws.Accepts.{accepted-refused, accepted-as}
 use Rattle.widening.specs.declared.Acceptance.{Acceptance}
 use Rattle.widening.specs.declared.Acceptance.the-variants as acceptances
-use Rattle.buffer.specs.Laws.{wrote-end, wrote-front, wrote-within}
+use Rattle.buffer.specs.Laws.{wrote-front, wrote-within}
 use Rattle.table.specs.Positions.{diagramOf}
 use Rattle.lowering.specs.Encoding.{encode, decode}
 use Rattle.lowering.specs.Closed.{Closed}

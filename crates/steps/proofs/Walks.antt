@@ -2,29 +2,18 @@
 use Prim.Native.Nat.{ℕ, zero, suc, _+_, _≤_, _<_}
 use mathlib.Core.Path.{_≡_, refl, sym, ap, subst, _∙_}
 use mathlib.Core.Bool.{Bool, true, false, _||_}
-use mathlib.Core.List.{List, [], _∷_}
+use mathlib.Core.List.{List}
 use native.Mathlib.Nat.{zero-add}
 use native.Mathlib.Decide.{decLe}
 use native.Mathlib.Omega.{arith}
 use lib.ListN.{length, getD}
-use borrow.Author.Tests.{lt-ltb, le-ltb}
 use Rattle.counting.specs.Laws.Index.{At, first, later}
 use Rattle.fixpoint.specs.Limits.{Limit, lowered, lowers, stepAt, lowersAt, anyLowers}
 use Rattle.fixpoint.specs.Laws.AnyOrder.{stepAt-is, lowersAt-is}
 use Rattle.lowering.specs.Encoding.{limitAt, decodeFrom, decode}
+use Rattle.lowering.specs.Laws.Decoding.{decode-more, decode-none}
 use Rattle.lowering.specs.Closed.{Start, first as front, behind, Whole, Closed}
 use Rattle.steps.specs.Numbered.{Numbered}
-
-module _ (xs : List ℕ) where
-  -- what is decoded from an index on: a limit and the rest, or nothing
-  decode-more : (m at : ℕ) → at + 4 ≤ length xs → decodeFrom (suc m) xs at ≡ limitAt xs at ∷ decodeFrom m xs (at + 4 + getD xs (at + 3) 0)
-  unfolding decodeFrom
-  decode-more m at h = rw (le-ltb (length xs) (at + 4) h, decodeFrom)
-
-  decode-none : (m at : ℕ) → length xs < at + 4 → decodeFrom m xs at ≡ []
-  unfolding decodeFrom
-  decode-none zero at h = refl
-  decode-none (suc m) at h = rw (lt-ltb (length xs) (at + 4) h, decodeFrom)
 
 -- The limits from the index `at` on are all but the first n
 pub record Ahead (xs : List ℕ) (at n : ℕ) : Type 0 where

@@ -1,8 +1,6 @@
 -- The proof of S-8 on running code: from what the contracts ensure, by the statement over the definitions.
 use Prim.Native.Nat.{ℕ, _+_, _≤_}
-use native.Mathlib.Omega.{arith}
 use mathlib.Core.Path.{_≡_, refl, sym, ap, subst, _∙_}
-use mathlib.Core.Logic.{_↔_}
 use mathlib.Core.List.{List, [], _∷_, _++_}
 use lib.ListN.{length, take}
 use lib.Seq.{take-append-seam}
@@ -23,7 +21,7 @@ use Rattle.guarantee.specs.RoleLimits.{TextKinds, TableLimits, Unchanged}
 use Rattle.guarantee.specs.RoleLimits.Proof.{role-limits}
 use Rattle.populate.specs.Demand3.{TableOf, TextOf, settledSizes}
 use Rattle.populate.specs.Tied.{table-accepted}
-use Rattle.capi.specs.Answers.{numbers, verdictNumbers}
+use Rattle.capi.specs.Answers.{verdictNumbers}
 use Rattle.capi.specs.Told.{Told, ToldRead}
 use Rattle.capi.specs.Emptied.{emptied}
 use Rattle.capi.specs.Accepted.{same-diagram, told-written, told-table, role-size-written}

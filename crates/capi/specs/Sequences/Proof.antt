@@ -1,6 +1,6 @@
 -- The proof of S-13 on running code: from what the contracts ensure, by the statement over the definitions.
-use Prim.Native.Nat.{ℕ, suc, _+_, _≤_, _<_}
-use native.Mathlib.Nat.{zero-add, suc-add}
+use Prim.Native.Nat.{ℕ, _+_, _≤_, _<_}
+use native.Mathlib.Nat.{zero-add}
 use native.Mathlib.Decide.{decLe}
 use native.Mathlib.Omega.{arith}
 use mathlib.Core.Path.{_≡_, refl, sym, ap, subst, _∙_}
@@ -25,13 +25,13 @@ use Rattle.guarantee.specs.Guarantee.{NoPopulation}
 use Rattle.guarantee.specs.Proof.{guarantee}
 use Rattle.guarantee.specs.Sequences.{SomeBelow, EndOf, OneLimit, SequencesOf}
 use Rattle.guarantee.specs.Sequences.Proof.{sequences}
-use Rattle.populate.specs.Demand3.{TableOf, Making, settledSizes}
+use Rattle.populate.specs.Demand3.{TableOf, settledSizes}
 use Rattle.populate.specs.Tied.{table-accepted}
-use Rattle.capi.specs.Answers.{numbers, foundNumbers}
+use Rattle.capi.specs.Answers.{foundNumbers}
 use Rattle.capi.specs.Told.{Told}
 use Rattle.capi.specs.Accepted.{same-diagram, told-written}
 use Rattle.capi.specs.Emptied.{emptied}
-use Rattle.capi.specs.Ended.{HasStarted, HasLowered, HasSurveyed, Gives, RefusedWith}
+use Rattle.capi.specs.Ended.{HasStarted, HasLowered, HasSurveyed, RefusedWith}
 use Rattle.capi.specs.Ended.Laws.{converted, converted-accepted}
 use Rattle.capi.specs.Sequences.{Calls, stop, call, Caller, CarriesOn, LowersOne, SequencesTold}
 

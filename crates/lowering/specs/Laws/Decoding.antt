@@ -3,7 +3,7 @@ use Prim.Native.Nat.{ℕ, zero, suc, _+_, _≤_, _<_}
 use mathlib.Core.Path.{_≡_, refl, sym, ap, ap₂, _∙_}
 use mathlib.Core.List.{List, [], _∷_, _++_, append-assoc}
 use native.Mathlib.Omega.{arith}
-use lib.ListN.{length, length-append}
+use lib.ListN.{length, getD, length-append}
 use lib.Seq.{getD-append-seam, getD-append-add, drop-append-add, take-append-seam}
 use borrow.Author.Tests.{lt-ltb, le-ltb}
 use Rattle.fixpoint.specs.Limits.{Expr, product, sum, times, quotient, Limit}
@@ -27,6 +27,17 @@ shape target (sum ss) = record { kind = 1; factor = 0; operands = ss; is = refl;
 shape target (times k s) = record { kind = 2; factor = k; operands = s ∷ []; is = refl; means = refl; reads = refl; some = λ h. omega arith }
 shape target (quotient s k) = record { kind = 3; factor = k; operands = s ∷ []; is = refl; means = refl; reads = refl; some = λ h. omega arith }
 
+-- What is decoded from an index on: the limit there and the rest, or nothing
+module _ (xs : List ℕ) where
+  pub decode-more : (m at : ℕ) → at + 4 ≤ length xs → decodeFrom (suc m) xs at ≡ limitAt xs at ∷ decodeFrom m xs (at + 4 + getD xs (at + 3) 0)
+  unfolding decodeFrom
+  decode-more m at h = rw (le-ltb (length xs) (at + 4) h, decodeFrom)
+
+  pub decode-none : (m at : ℕ) → length xs < at + 4 → decodeFrom m xs at ≡ []
+  unfolding decodeFrom
+  decode-none zero at h = refl
+  decode-none (suc m) at h = rw (lt-ltb (length xs) (at + 4) h, decodeFrom)
+
 module _ (pre : List ℕ) (k t f : ℕ) (ss rest : List ℕ) where
   all : List ℕ
   all = pre ++ (k ∷ t ∷ f ∷ length ss ∷ (ss ++ rest))
@@ -45,11 +56,11 @@ module _ (pre : List ℕ) (k t f : ℕ) (ss rest : List ℕ) where
 
   decode-here : (m : ℕ)
       → decodeFrom (suc m) all (length pre) ≡ record { target = t; most = exprOf k f ss } ∷ decodeFrom m all (length pre + 4 + length ss)
-  unfolding all decodeFrom
+  unfolding all
   decode-here m =
       let long : length pre + 4 ≤ length all = omega (arith, length-append pre (k ∷ t ∷ f ∷ length ss ∷ (ss ++ rest))) in
-      rw (le-ltb (length all) (length pre + 4) long, decodeFrom)
-      (ap₂ (λ (l : Limit) (n : ℕ). l ∷ decodeFrom m all (length pre + 4 + n)) limit-here
+      decode-more all m (length pre) long
+      ∙ (ap₂ (λ (l : Limit) (n : ℕ). l ∷ decodeFrom m all (length pre + 4 + n)) limit-here
       (getD-append-add pre (k ∷ t ∷ f ∷ length ss ∷ (ss ++ rest)) 3 0))
 
   -- the limits after this one start where its operands end
@@ -83,9 +94,7 @@ longer l ls =
 from : (ls : List Limit) (pre : List ℕ) (m : ℕ) → length (encode ls) ≤ m → decodeFrom m (pre ++ encode ls) (length pre) ≡ ls
 unfolding decodeFrom encode
 from [] pre zero h = refl
-from [] pre (suc m) h =
-    let short : length (pre ++ []) < length pre + 4 = omega (arith, length-append pre []) in
-    rw (lt-ltb (length (pre ++ [])) (length pre + 4) short, decodeFrom)
+from [] pre (suc m) h = decode-none (pre ++ []) (suc m) (length pre) (omega (arith, length-append pre []))
 from (l ∷ ls) pre zero h = absurd (omega (arith, longer l ls))
 from (l ∷ ls) pre (suc m) h = next l ls pre m (λ pre′. from ls pre′ m (omega (arith, longer l ls)))
 

@@ -12,15 +12,17 @@ use Rattle.buffer.specs.Written.{Wrote}
 use Rattle.buffer.specs.Laws.{wrote-end, wrote-front, wrote-within, wrote-whole}
 use Rattle.table.specs.Positions.{diagramOf}
 use Rattle.selection.specs.Selected.{typesOf, Types}
-use Rattle.limits.specs.Prepared.{ValidTotals, Roomy}
+use Rattle.limits.specs.Prepared.{ValidTotals, Listable, typesIn, Roomy}
 
-module _ {t types limits′ low up : List ℕ} (room : Roomy t types limits′ low up) where
+-- ---- the types of the roles
+
+module _ {t types : List ℕ} {roles : ℕ} (l : Listable t roles types) where
   as-many : length (typesOf (allRoles (diagramOf t))) ≡ length (allRoles (diagramOf t))
   as-many = length-map (allRoles (diagramOf t)) (λ (r : Role). r .type)
 
   module _ {types′ : List ℕ} {n : ℕ} (w : Wrote types 0 (typesOf (allRoles (diagramOf t))) types′ n) where
     fits : length (typesOf (allRoles (diagramOf t))) ≤ length types
-    fits = omega (arith, as-many, room .types-room)
+    fits = omega (arith, as-many, l .room)
 
     pub types-within : n ≤ length types′
     types-within = wrote-within w fits
@@ -28,13 +30,24 @@ module _ {t types limits′ low up : List ℕ} (room : Roomy t types limits′ l
     pub types-count : n ≡ length (take n types′)
     types-count = sym (length-take-le n types′ types-within)
 
-    pub types-known : {roles groups : ℕ} → ValidTotals t roles groups → Types t (take n types′)
-    types-known v =
+    pub types-known : Types t (take n types′)
+    types-known =
         let e : take n types′ ≡ typesOf (allRoles (diagramOf t)) = wrote-front w fits in
-        record { are = e; few = rw e (omega (arith, as-many, v .valid .formed .roleCount)) }
+        record { are = e; few = rw e (omega (arith, as-many, l .counted, l .few)) }
 
-    pub types-front : types′ ≡ typesOf (allRoles (diagramOf t)) ++ drop (length (allRoles (diagramOf t))) types
+    pub types-front : types′ ≡ typesIn t types
     types-front = wrote-whole w fits ∙ ap (λ (k : ℕ). typesOf (allRoles (diagramOf t)) ++ drop k types) as-many
+
+-- ---- all that the rounds start from
+
+module _ {t types limits′ low up : List ℕ} (room : Roomy t types limits′ low up) where
+  pub listable : {roles groups : ℕ} → ValidTotals t roles groups → Listable t roles types
+  listable v = record {
+    walkable = v .walkable;
+    counted = v .counted .roles-are;
+    few = omega (arith, v .counted .roles-are, v .valid .formed .roleCount);
+    room = room .types-room;
+  }
 
   -- as many lower as upper bounds
   pub lower-counted : {low′ up′ : List ℕ} {n k : ℕ} → Wrote low 0 (lower (diagramOf t)) low′ n → Wrote up 0 (upper (diagramOf t)) up′ k

@@ -19,6 +19,17 @@ pub record ValidTotals (t : List ℕ) (roles groups : ℕ) : Type 0 where
   pub walkable : Walkable t
   pub counted : Counted t roles groups
 
+-- A table that is walked, how many roles its diagram has, and a place for the type of each
+pub record Listable (t : List ℕ) (roles : ℕ) (types : List ℕ) : Type 0 where
+  pub walkable : Walkable t
+  pub counted : roles ≡ length (allRoles (diagramOf t))
+  pub few : roles ≤ 96
+  pub room : length (allRoles (diagramOf t)) ≤ length types
+
+-- The types of the roles at the front of a list, whose rest stays
+abbrev pub typesIn : List ℕ → List ℕ → List ℕ
+typesIn t types = typesOf (allRoles (diagramOf t)) ++ drop (length (allRoles (diagramOf t))) types
+
 -- A place for the type of each role, for each number of the limits, and twice for each set
 pub record Roomy (t types limits′ lower′ upper′ : List ℕ) : Type 0 where
   pub types-room : length (allRoles (diagramOf t)) ≤ length types
@@ -28,7 +39,7 @@ pub record Roomy (t types limits′ lower′ upper′ : List ℕ) : Type 0 where
 
 -- The limits and bounds of the diagram stand at the fronts of the lent arrays, whose rest stays; so do the types of its roles
 pub record Prepared (t types limits₀ lower₀ upper₀ : List ℕ) (r : Extent) (types′ limits′ lower′ upper′ : List ℕ) : Type 0 where
-  pub types-are : types′ ≡ typesOf (allRoles (diagramOf t)) ++ drop (length (allRoles (diagramOf t))) types
+  pub types-are : types′ ≡ typesIn t types
   pub limits-are : Wrote limits₀ 0 (encode (limits (diagramOf t))) limits′ (r .limits)
   pub lower-are : Wrote lower₀ 0 (lower (diagramOf t)) lower′ (r .sets)
   pub upper-are : Wrote upper₀ 0 (upper (diagramOf t)) upper′ (r .sets)

@@ -24,7 +24,7 @@ ghost use Rattle.selection.specs.Selected.{Types};
 ghost use Rattle.lowering.specs.Encoding.{encode};
 ghost use Rattle.buffer.specs.Written.{Wrote};
 ghost use Rattle.table.specs.Positions.{diagramOf, Walkable};
-ghost use Rattle.limits.specs.Prepared.{ValidTotals, Roomy, Prepared};
+ghost use Rattle.limits.specs.Prepared.{ValidTotals, Listable, typesIn, Roomy, Prepared};
 
 // How many sets a diagram has, and how many numbers its limits take.
 pub struct Extent {
@@ -67,7 +67,7 @@ fn write_lower(t: &[u32], groups: u32, out: &mut [u32]) -> usize
 }
 
 // The upper bounds that the rounds start from.
-fn write_upper(t: &[u32], groups: u32, out: &mut [u32]) -> usize
+pub fn write_upper(t: &[u32], groups: u32, out: &mut [u32]) -> usize
     requires { ⌜ Walkable (now t) ⌝ }
     requires { ⌜ groups ≡ length (allGroups (diagramOf (now t))) ⌝ }
     ensures { λ r. ⌜ Wrote (now (out .entry)) 0 (upper (diagramOf (now (t .entry)))) (now (out .exit)) r ⌝ }
@@ -89,6 +89,16 @@ fn write_limits(t: &[u32], roles: u32, types: &[u32], out: &mut [u32]) -> usize
     push_types(t, types, table::first_role(t), out, a)
 }
 
+// The limits of the diagram of a table with so many roles; `types` is scratch for the types of these.
+pub fn limits_of(t: &[u32], roles: u32, types: &mut [u32], out: &mut [u32]) -> usize
+    requires { ⌜ Listable (now t) roles (now types) ⌝ }
+    ensures { λ r. ⌜ Wrote (now (out .entry)) 0 (encode (limits (diagramOf (now (t .entry))))) (now (out .exit)) r ⌝ }
+    ensures { λ _. ⌜ now (types .exit) ≡ typesIn (now (t .entry)) (now (types .entry)) ⌝ }
+{
+    let n = selection::write_types(t, types);
+    write_limits(t, roles, &types[..n], out)
+}
+
 // The limits and bounds of the diagram of a table with so many roles and groups, at the fronts of
 // `limits`, `lower` and `upper`; `types` is scratch for the types of its roles.
 pub fn prepare(
@@ -106,8 +116,7 @@ pub fn prepare(
         ⌜ Prepared (now (t .entry)) (now (types .entry)) (now (limits .entry)) (now (lower .entry)) (now (upper .entry)) r
         (now (types .exit)) (now (limits .exit)) (now (lower .exit)) (now (upper .exit)) ⌝ }
 {
-    let n = selection::write_types(t, types);
-    let m = write_limits(t, roles, &types[..n], limits);
+    let m = limits_of(t, roles, types, limits);
     write_lower(t, groups, lower);
     let sets = write_upper(t, groups, upper);
     Extent { sets, limits: m }

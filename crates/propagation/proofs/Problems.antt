@@ -1,90 +1,146 @@
--- The limits and starting upper bounds of a table's diagram: the scratch that they take, and what a caller has of them.
-use Prim.Native.Nat.{ℕ, _≤_}
+-- The limits of a table's diagram: the scratch that they take, and what a caller has of them.
+use Prim.Native.Nat.{ℕ, _+_, _≤_}
 use native.Mathlib.Omega.{arith}
 use mathlib.Core.Path.{_≡_, refl, sym, ap, subst⁻¹, _∙_}
 use mathlib.Core.List.{List}
 use lib.ListN.{length, take}
 use lib.Seq.{length-take-le}
-use Rattle.orm.specs.Diagram.{Diagram}
+use Rattle.orm.specs.Diagram.{Diagram, Totals, totals, allRoles, allGroups}
 use Rattle.orm.specs.Text.{tableLine}
-use Rattle.orm.specs.Sets.{setCount, lower, upper, limits}
-use Rattle.orm.specs.Outcome.{Outcome, refused, accepted, bufferAfter}
+use Rattle.orm.specs.Sets.{firstPred, firstRole, firstGroup, setCount, upper, limits}
+use Rattle.orm.specs.Outcome.{Outcome, refused, accepted, fitted, bufferAfter}
 use Rattle.orm.specs.Calls.{diagramIn}
-use Rattle.orm.specs.Laws.Bounds.{length-lower, lower-few, upper-few, upper-sets}
+use Rattle.orm.specs.SingleLimits.{startCall}
+use Rattle.orm.specs.Laws.Bounds.{upper-sets}
 use Rattle.grammar.specs.declared.Fault.{Fault}
 use Rattle.grammar.specs.Fault.{numberOf}
-use Rattle.widening.specs.Answer.{acceptanceOf, described, widened}
+use Rattle.reader.specs.declared.Conversion.{Conversion}
+use Rattle.reader.specs.declared.Conversion.the-variants as conversions
+use Rattle.widening.specs.Answer.{acceptanceOf, described, widened, Accepted}
 use Rattle.widening.specs.Laws.Accepts.{accepted-refused, accepted-as}
 use Rattle.widening.specs.declared.Acceptance.{Acceptance}
 use Rattle.widening.specs.declared.Acceptance.the-variants as acceptances
+use Rattle.buffer.specs.Written.{Wrote}
 use Rattle.buffer.specs.Laws.{wrote-front, wrote-within}
 use Rattle.table.specs.Positions.{diagramOf}
+use Rattle.table.specs.Laws.Valid.{valid-walkable}
 use Rattle.lowering.specs.Encoding.{encode, decode}
 use Rattle.lowering.specs.Closed.{Closed}
 use Rattle.lowering.specs.Laws.Decoding.{decode-encode}
-use Rattle.limits.specs.Prepared.{ValidTotals, Roomy, Prepared}
-use Rattle.limits.specs.declared.Extent.{Extent}
+use Rattle.limits.specs.Prepared.{Listable}
 use Rattle.limits.specs.Laws.Room.{limits-fit}
 use Rattle.limits.specs.Laws.Start.{start-bounds}
-use Rattle.propagation.specs.Posed.{Spaces, Stated, Posed}
+use Rattle.propagation.specs.Answer.{Converted}
+use Rattle.propagation.specs.Posed.{Few, Counted, Bounded, Stated, Posed}
 use Rattle.propagation.specs.declared.Problem.{Problem}
 use Rattle.propagation.specs.declared.Problem.the-variants.{Refused, Ready}
 
 -- ---- a valid table
 
-module _ {t : List ℕ} {roles groups : ℕ} {types low ls up : List ℕ} (known : ValidTotals t roles groups) (space : Spaces types low ls up) where
-  d : Diagram
-  d = diagramOf t
-
-  pub spaces-roomy : Roomy t types ls low up
-  unfolding d
-  spaces-roomy =
-      let few : length (lower d) ≤ 208 = lower-few d (known .valid .formed) in
+module _ {t : List ℕ} {roles sets : ℕ} (known : Counted t roles sets) where
+  pub known-listable : (types : List ℕ) {count : ℕ} → length types ≡ 208 → count ≡ roles → Listable t count types
+  known-listable types et e =
+      let few : length (allRoles (diagramOf t)) ≤ 96 = known .valid .formed .roleCount in
       record {
-        types-room = omega (arith, length-lower d, few, space .types-room);
-        limits-room = omega (arith, limits-fit d (known .valid .formed), space .limits-room);
-        lower-room = omega (arith, few, space .lower-room);
-        upper-room = omega (arith, few, space .upper-room);
+        walkable = valid-walkable (known .valid);
+        counted = e ∙ known .roles-are;
+        few = omega (arith, known .roles-are, few);
+        room = omega (arith, few);
       }
 
-  pub prepared-posed : {r : Extent} {types′ ls′ low′ up′ : List ℕ} → Prepared t types ls low up r types′ ls′ low′ up′
-      → Posed (accepted (diagramOf t)) (Ready (r .limits) (r .sets)) ls′ up′
-  unfolding d
-  prepared-posed p =
-      let up-room : length (upper d) ≤ length up = omega (arith, upper-few d (known .valid .formed), space .upper-room) in
+  pub limits-posed : {n : ℕ} (ls : List ℕ) {ls′ : List ℕ} → Wrote ls 0 (encode (limits (diagramOf t))) ls′ n → length ls ≡ 3776
+      → Posed (accepted (diagramOf t)) (Ready n sets) ls′
+  limits-posed ls w el =
+      let room : length (encode (limits (diagramOf t))) ≤ length ls = omega (arith, limits-fit (diagramOf t) (known .valid .formed)) in
       record {
         poses = record {
-          of = d;
+          of = diagramOf t;
           reads = refl;
           formed = known .valid .formed;
-          limits-within = wrote-within (p .limits-are) (spaces-roomy .limits-room);
-          limits-are = wrote-front (p .limits-are) (spaces-roomy .limits-room);
-          sets-within = wrote-within (p .upper-are) up-room;
-          upper-are = wrote-front (p .upper-are) up-room;
+          limits-within = wrote-within w room;
+          limits-are = wrote-front w room;
+          sets-are = known .sets-are;
         };
       }
 
 -- ---- any table
 
 module _ (t : List ℕ) {r : Acceptance} (e : acceptanceOf r ≡ described (diagramIn tableLine t)) where
-  pub posed-refused : {f : Fault} {line : ℕ} {l u : List ℕ} → r ≡ acceptances.Refused f line → Posed (diagramIn tableLine t) (Refused f line) l u
-  posed-refused p = record { poses = accepted-refused t p e }
+  pub posed-refused : {f : Fault} {line : ℕ} (l : List ℕ) → r ≡ acceptances.Refused f line → Posed (diagramIn tableLine t) (Refused f line) l
+  posed-refused l p = record { poses = accepted-refused t p e }
 
-  pub posed-widened : (w : List ℕ) {w′ : List ℕ} {n a b c g : ℕ} {x : Problem} {l u : List ℕ} → r ≡ acceptances.Widened n a b c g
-      → w′ ≡ bufferAfter (widened t) w → Posed (accepted (diagramOf (take n w′))) x l u → Posed (diagramIn tableLine t) x l u
-  posed-widened w p ew h = rw (accepted-as t w p e ew .reads) h
+  module _ (w : List ℕ) {w′ : List ℕ} {n types preds roles groups : ℕ} (p : r ≡ acceptances.Widened n types preds roles groups)
+      (ew : w′ ≡ bufferAfter (widened t) w) where
+    known : Accepted t (take n w′) types preds roles groups
+    known = accepted-as t w p e ew
 
-pub scratch-spaces : (a b c u : List ℕ) → length a ≡ 208 → length b ≡ 208 → length c ≡ 3776 → length u ≡ 208 → Spaces a b c u
-scratch-spaces a b c u ha hb hc hu = record { types-room = ha; lower-room = hb; limits-room = hc; upper-room = hu }
+    d : Diagram
+    d = diagramOf (take n w′)
+
+    totals-as : totals d ≡ record { types = types; preds = preds; roles = roles; groups = groups }
+    unfolding d
+    totals-as = known .totals-are
+
+    types-as : length (d .types) ≡ types
+    unfolding totals
+    types-as = ap (λ (x : Totals). x .types) totals-as
+
+    preds-as : length (d .preds) ≡ preds
+    unfolding totals
+    preds-as = ap (λ (x : Totals). x .preds) totals-as
+
+    roles-as : length (allRoles d) ≡ roles
+    unfolding totals
+    roles-as = ap (λ (x : Totals). x .roles) totals-as
+
+    groups-as : length (allGroups d) ≡ groups
+    unfolding totals
+    groups-as = ap (λ (x : Totals). x .groups) totals-as
+
+    pub totals-few : Few types preds roles groups
+    unfolding d
+    totals-few =
+        let w = known .valid .formed in
+        record {
+          few-types = omega (arith, types-as, w .typeCount .1);
+          few-preds = omega (arith, preds-as, w .predCount .1);
+          few-roles = omega (arith, roles-as, w .roleCount);
+          few-groups = omega (arith, groups-as, w .groupCount);
+        }
+
+    sets-as : {sets : ℕ} → sets ≡ types + preds + roles + groups → sets ≡ setCount (diagramOf (take n w′))
+    unfolding setCount firstGroup firstRole firstPred d
+    sets-as e = omega (arith, types-as, preds-as, roles-as, groups-as)
+
+    pub table-counted : {sets : ℕ} → sets ≡ types + preds + roles + groups → Counted (take n w′) roles sets
+    unfolding d
+    table-counted e = record { valid = known .valid; roles-are = sym roles-as; sets-are = sets-as e }
+
+    pub table-bounded : {sets : ℕ} → sets ≡ types + preds + roles + groups → Bounded (take n w′) groups sets
+    unfolding d
+    table-bounded e = record { valid = known .valid; groups-are = sym groups-as; sets-are = sets-as e }
+
+    pub posed-widened : {x : Problem} {l : List ℕ} → Posed (accepted (diagramOf (take n w′))) x l → Posed (diagramIn tableLine t) x l
+    posed-widened h = rw (known .reads) h
+
+    -- and what the table's call makes of it
+    pub start-widened : {b b′ : List ℕ} {x : Conversion} → Converted (fitted (length b) (upper (diagramOf (take n w′)))) x b b′
+        → Converted (startCall t (length b)) x b b′
+    unfolding startCall
+    start-widened h = rw (known .reads, startCall) h
+
+  pub start-refused : {f : Fault} {line : ℕ} (b : List ℕ) → r ≡ acceptances.Refused f line → Converted (startCall t (length b)) (conversions.Refused f line) b b
+  unfolding startCall bufferAfter
+  start-refused b p = rw (accepted-refused t p e, startCall) (record { handed = refl; buffer = refl })
 
 -- ---- what a caller has
 
-module _ {o : Outcome Diagram} {r : Problem} {l u : List ℕ} (w : Posed o r l u) where
+module _ {o : Outcome Diagram} {r : Problem} {l : List ℕ} (w : Posed o r l) where
   pub problem-refused : {f : Fault} {line : ℕ} → r ≡ Refused f line → o ≡ refused (numberOf f) line 0
   problem-refused p = rw p at (w .poses)
 
   module _ {m n : ℕ} (p : r ≡ Ready m n) where
-    pub stated : Stated o m n l u
+    pub stated : Stated o m n l
     stated = rw p at (w .poses)
 
     pub limits-within : m ≤ length l
@@ -93,23 +149,11 @@ module _ {o : Outcome Diagram} {r : Problem} {l u : List ℕ} (w : Posed o r l u
     pub limits-front : m ≡ length (take m l)
     limits-front = sym (length-take-le m l limits-within)
 
-    pub sets-within : n ≤ length u
-    sets-within = stated .sets-within
-
-    pub sets-front : n ≡ length (take n u)
-    sets-front = sym (length-take-le n u sets-within)
-
-    sets-are : n ≡ length (upper (stated .of))
-    sets-are = sets-front ∙ ap length (stated .upper-are)
-
-    -- as many as the diagram's sets, and between these its limits
-    pub sets-counted : n ≡ setCount (stated .of)
-    sets-counted = sets-are ∙ upper-sets (stated .of)
-
     pub limits-decoded : decode (take m l) ≡ limits (stated .of)
     limits-decoded = ap decode (stated .limits-are) ∙ decode-encode (limits (stated .of))
 
     pub limits-closed : Closed (take m l) n
     limits-closed =
         subst⁻¹ (λ (xs : List ℕ). Closed xs n) (stated .limits-are)
-        (subst⁻¹ (λ (k : ℕ). Closed (encode (limits (stated .of))) k) sets-are (start-bounds (stated .of) (stated .formed) .closed))
+        (subst⁻¹ (λ (k : ℕ). Closed (encode (limits (stated .of))) k) (stated .sets-are ∙ sym (upper-sets (stated .of)))
+        (start-bounds (stated .of) (stated .formed) .closed))

@@ -3,7 +3,7 @@ use Prim.Native.Nat.{ℕ}
 use mathlib.Core.Path.{_≡_}
 use mathlib.Core.List.{List}
 use lib.ListN.{length}
-use Rattle.fixpoint.specs.Limits.{Limit, stepAt, lowersAt, anyLowers}
+use Rattle.fixpoint.specs.Limits.{Limit, lowered, lowers, stepAt, lowersAt, anyLowers}
 use Rattle.orm.specs.Outcome.{Outcome, refused, accepted, _>>=_, lengthOf, bufferAfter}
 use Rattle.orm.specs.SingleLimits.{Found, foundOf, boundsOf, numbered, frontOf}
 use Rattle.orm.specs.SingleLimits as single
@@ -32,7 +32,10 @@ pub record Stepped (o : Outcome single.Stepped) (r : Propagation) (before after 
 pub record Surveyed (o : Outcome Found) (r : Propagation) : Type 0 where
   pub handed : propagationOf r ≡ o
 
--- The limit with this number put to use, of these limits between so many sets
+-- A limit put to use on the bounds of so many sets; and the one with this number, of these
+abbrev pub applyOn : Limit → ℕ → List ℕ → Outcome single.Stepped
+applyOn l sets buffer = frontOf sets buffer >>= λ c. accepted (record { lowers = lowers c l; result = lowered c l c })
+
 abbrev pub lowerOn : List Limit → ℕ → ℕ → List ℕ → Outcome single.Stepped
 lowerOn ls sets k buffer =
     numbered (length ls) k >>= λ number.

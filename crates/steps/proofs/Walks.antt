@@ -4,16 +4,15 @@ use mathlib.Core.Path.{_≡_, refl, sym, ap, subst, _∙_}
 use mathlib.Core.Bool.{Bool, true, false, _||_}
 use mathlib.Core.List.{List}
 use native.Mathlib.Nat.{zero-add}
-use native.Mathlib.Decide.{decLe}
 use native.Mathlib.Omega.{arith}
 use lib.ListN.{length, getD}
 use Rattle.counting.specs.Laws.Index.{At, first, later}
-use Rattle.fixpoint.specs.Limits.{Limit, lowered, lowers, stepAt, lowersAt, anyLowers}
-use Rattle.fixpoint.specs.Laws.AnyOrder.{stepAt-is, lowersAt-is}
+use Rattle.fixpoint.specs.Limits.{Limit, lowers, anyLowers}
 use Rattle.lowering.specs.Encoding.{limitAt, decodeFrom, decode}
 use Rattle.lowering.specs.Laws.Decoding.{decode-more, decode-none}
 use Rattle.lowering.specs.Closed.{Start, first as front, behind, Whole, Closed}
-use Rattle.steps.specs.Numbered.{Numbered}
+use Rattle.steps.specs.declared.Found.the-variants as Found
+use Rattle.steps.specs.Numbered.{Numbered, Finds}
 
 -- The limits from the index `at` on are all but the first n
 pub record Ahead (xs : List ℕ) (at n : ℕ) : Type 0 where
@@ -54,51 +53,25 @@ module _ (xs : List ℕ) where
     pub ahead-all : length xs < at + 4 → n ≡ length (decode xs)
     ahead-all h = omega (arith, w .counted, ap length (decode-none xs (w .most) at h))
 
-    -- a limit that is not passed yet is there
-    pub ahead-room : n < length (decode xs) → at + 4 ≤ length xs
-    ahead-room l = go (decLe (at + 4) (length xs))
-      where
-        go : Dec (at + 4 ≤ length xs) → at + 4 ≤ length xs
-        go (yes h) = h
-        go (no h) = absurd (omega (arith, ahead-all (omega arith)))
-
-    pub ahead-here : n < length (decode xs) → Numbered xs n at
-    ahead-here l = go (w .most) (w .enough) (w .numbered)
+    -- the limit that comes next is found, if it has the number; none that is left has a smaller one
+    pub ahead-found : {k : ℕ} → at + 4 ≤ length xs → n ≡ k → Finds xs k (Found.At at)
+    ahead-found {k} h e = record { finds = subst (λ (i : ℕ). Numbered xs i at) e (go (w .most) (w .enough) (w .numbered)) }
       where
         go : (f : ℕ) → length xs ≤ at + f → ((k : ℕ) (l : Limit) → At l (decodeFrom f xs at) k → At l (decode xs) (n + k)) → Numbered xs n at
-        go zero k g = absurd (omega (arith, ahead-room l))
-        go (suc f) k g = record {
+        go zero m g = absurd (omega arith)
+        go (suc f) m g = record {
           start = w .start;
-          room = ahead-room l;
+          room = h;
           limit =
               let z : n + 0 ≡ n = omega arith in
-              subst (λ (p : ℕ). At (limitAt xs at) (decode xs) p) z (g 0 (limitAt xs at) (rw (decode-more xs f at (ahead-room l)) (first refl)));
+              subst (λ (p : ℕ). At (limitAt xs at) (decode xs) p) z (g 0 (limitAt xs at) (rw (decode-more xs f at h) (first refl)));
         }
 
--- ---- the limit with a number
+    pub ahead-past : {k : ℕ} → n ≤ k → length xs < at + 4 → Finds xs k Found.Past
+    ahead-past l h = record { finds = omega (arith, ahead-all h) }
 
--- on the way to the limit k the limits up to it are there
-module _ (xs : List ℕ) (k : ℕ) (there : k < length (decode xs)) where
-  pub first-there : 4 ≤ length xs
-  first-there = ahead-room xs 0 0 (ahead-start xs) (omega arith)
-
-  pub next-there : (at i : ℕ) {m : ℕ} → Ahead xs at i → i < k → at + 4 ≤ length xs → m ≡ getD xs (at + 3) 0 → at + 4 + m + 4 ≤ length xs
-  next-there at i {m} w l h e = ahead-room xs (at + 4 + m) (i + 1) (ahead-more xs at i w h e) (omega arith)
-
-  pub found : (at i : ℕ) → Ahead xs at i → i ≤ k → k ≤ i → Numbered xs k at
-  found at i w l h =
-      let e : i ≡ k = omega arith in
-      subst (λ (n : ℕ). Numbered xs n at) e (ahead-here xs at i w (omega arith))
-
-module _ (xs c : List ℕ) (k at : ℕ) (w : Numbered xs k at) where
-  pub numbered-whole : Closed xs (length c) → Whole xs (length c) at
-  numbered-whole h = h .whole at (w .start) (w .room)
-
-  pub numbered-lowers : {b : Bool} → b ≡ lowers c (limitAt xs at) → b ≡ lowersAt (decode xs) k c
-  numbered-lowers e = e ∙ sym (lowersAt-is (decode xs) c (w .limit))
-
-  pub numbered-lowered : {c′ : List ℕ} → c′ ≡ lowered c (limitAt xs at) c → c′ ≡ stepAt (decode xs) k c
-  numbered-lowered e = e ∙ sym (stepAt-is (decode xs) c (w .limit))
+    pub ahead-next : (k : ℕ) → n ≤ k → ¬ (n ≡ k) → n + 1 ≤ k
+    ahead-next k l d = omega arith
 
 -- ---- none of the limits passed lowers a size
 

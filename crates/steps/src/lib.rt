@@ -1,12 +1,11 @@
-// Single limits by their numbers, from 0: how many there are, one put to use, and whether any lowers a
+// Single limits by their numbers, from 0: how many there are, where one starts, and whether any lowers a
 // size. Limits stand in a slice of numbers, as specs/Encoding.antt of lowering says.
 ghost use mathlib.Core.Path.{_≡_};
-ghost use Prim.Native.Nat.{_<_};
 ghost use lib.ListN.{length};
-ghost use Rattle.fixpoint.specs.Limits.{stepAt, lowersAt, anyLowers};
+ghost use Rattle.fixpoint.specs.Limits.{anyLowers};
 ghost use Rattle.lowering.specs.Encoding.{decode};
 ghost use Rattle.lowering.specs.Closed.{Closed};
-ghost use Rattle.steps.specs.Numbered.{Numbered};
+ghost use Rattle.steps.specs.Numbered.{Finds};
 
 // How many limits there are.
 pub fn count(limits: &[u32]) -> usize
@@ -21,29 +20,26 @@ pub fn count(limits: &[u32]) -> usize
     n
 }
 
+// Where a limit starts, if there is one with the number.
+pub enum Found {
+    At { start: usize },
+    Past,
+}
+
 // Where the limit with this number starts.
-fn start_of(limits: &[u32], number: usize) -> usize
-    requires { ⌜ number < length (decode (now limits)) ⌝ }
-    ensures { λ r. ⌜ Numbered (now (limits .entry)) number r ⌝ }
+pub fn find(limits: &[u32], number: usize) -> Found
+    ensures { λ r. ⌜ Finds (now (limits .entry)) number r ⌝ }
 {
     let mut i = 0;
     let mut at = 0;
-    while i < number {
+    while at + 4 <= limits.len() {
+        if i == number {
+            return Found::At { start: at };
+        }
         at = at + 4 + lowering::index(limits[at + 3]);
         i += 1;
     }
-    at
-}
-
-// Puts the limit with this number to use on the sizes, and tells whether it lowers one.
-pub fn lower(limits: &[u32], number: usize, sizes: &mut [u32]) -> bool
-    requires { ⌜ Closed (now limits) (length (now sizes)) ⌝ }
-    requires { ⌜ number < length (decode (now limits)) ⌝ }
-    ensures { λ r. ⌜ r ≡ lowersAt (decode (now (limits .entry))) number (now (sizes .entry)) ⌝ }
-    ensures { λ _. ⌜ now (sizes .exit) ≡ stepAt (decode (now (limits .entry))) number (now (sizes .entry)) ⌝ }
-{
-    let at = start_of(limits, number);
-    lowering::lower_at(limits, at, sizes)
+    Found::Past
 }
 
 // Whether any limit lowers a size.

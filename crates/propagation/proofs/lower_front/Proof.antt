@@ -1,6 +1,6 @@
--- `propagation::lower_front` meets its contract. No limit with the number, too few bounds, or the limit put to use on the front of the buffer.
+-- `propagation::lower_front` meets its contract. No limit has the number, or one does.
 -- Assumes nothing.
-use Rattle.propagation.proofs.Answers.{front-counts, closed-front, lower-none, lower-short, lower-done}
+use Rattle.propagation.proofs.Answers.{found-whole, lower-none, lower-found}
 use borrow.Author.Needs.{needs}
 use Rattle.propagation.proofs.lower_front.Statement.{statement}
 use Rattle.propagation.proofs.lower_front.Tie as tie
@@ -11,10 +11,9 @@ lower-front-spec =
     (tie.spec
     (λ c κs. search needs)
     (λ c κs. search needs)
+    (λ c. search needs)
+    (λ c. search needs)
+    (λ c κs. search (needs, found-whole))
     (λ c. search (needs, lower-none))
-    (λ c. search (needs, lower-short))
     (λ c. search needs)
-    (λ c. search (needs, front-counts))
-    (λ c κs. search (needs, closed-front))
-    (λ c. search needs)
-    (λ c. search (needs, lower-done)))
+    (λ c. search (needs, lower-found)))

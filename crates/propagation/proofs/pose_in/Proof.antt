@@ -1,8 +1,7 @@
 -- `propagation::pose_in` meets its contract. A table that is refused, or a valid one.
 -- Assumes nothing.
 use Rattle.widening.specs.Laws.Accepts.{accepted-within, accepted-front}
-use Rattle.bounds.specs.Laws.Tables.{table-totals}
-use Rattle.propagation.proofs.Problems.{posed-refused, posed-widened}
+use Rattle.propagation.proofs.Problems.{totals-few, table-counted, posed-refused, posed-widened}
 use borrow.Author.Needs.{needs}
 use Rattle.propagation.proofs.pose_in.Statement.{statement}
 use Rattle.propagation.proofs.pose_in.Tie as tie
@@ -14,13 +13,12 @@ pose-in-spec =
     (λ c κs. search needs)
     (λ c. search needs)
     (λ c. search needs)
+    (λ c κs. search (needs, totals-few))
     (λ c. search (needs, accepted-within))
     (λ c. search (needs, accepted-front))
-    (λ c κs. search (needs, table-totals))
+    (λ c κs. search (needs, table-counted))
     (λ c. search needs)
     (λ c. search (needs, posed-refused))
-    (λ c. search needs)
-    (λ c. search needs)
     (λ c. search needs)
     (λ c. search needs)
     (λ c. search needs)

@@ -1,6 +1,6 @@
--- `propagation::ready` meets its contract. What is lent has room for what is prepared.
+-- `propagation::ready` meets its contract. What is lent has room for the types of the roles and for the limits.
 -- Assumes nothing.
-use Rattle.propagation.proofs.Problems.{spaces-roomy, prepared-posed}
+use Rattle.propagation.proofs.Problems.{known-listable, limits-posed}
 use borrow.Author.Needs.{needs}
 use Rattle.propagation.proofs.ready.Statement.{statement}
 use Rattle.propagation.proofs.ready.Tie as tie
@@ -10,10 +10,7 @@ ready-spec =
     tie.close
     (tie.spec
     (λ c κs. search needs)
-    (λ c κs. search needs)
-    (λ c κs. (search needs, search (needs, spaces-roomy)))
+    (λ c κs. search (needs, known-listable))
     (λ c. search needs)
     (λ c. search needs)
-    (λ c. search needs)
-    (λ c. search needs)
-    (λ c. search (needs, prepared-posed)))
+    (λ c. search (needs, limits-posed)))

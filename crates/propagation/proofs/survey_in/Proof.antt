@@ -17,8 +17,6 @@ survey-in-spec =
     (λ c. search (needs, limits-front))
     (λ c κs. search (needs, limits-closed))
     (λ c. search needs)
-    (λ c. search needs)
     (λ c. search (needs, survey-refused))
-    (λ c. search needs)
     (λ c. search needs)
     (λ c. search (needs, survey-told)))

@@ -60,6 +60,17 @@ module _ (number : ℕ) (make : List ℕ → List ℕ) (space : ℕ) where
       by-test true q = other (cc)
       by-test false q = let z : _≡_ {A = ℕ} 0 1 = cc in omega arith
 
+  -- No other number is refused with but that and 8
+  pub refuses-only : (v : Verdict) {other place round : ℕ} → ¬ (other ≡ number) → ¬ (other ≡ 8) → ¬ (settledInto number make v space ≡ refused other place round)
+  refuses-only (unsatisfiable s n) {other} own short h =
+      let z : other ≡ number = cc (settled-unsatisfiable {s = s} {n = n} refl) in
+      own z
+  refuses-only (fixpoint n c) {other} {place} {round} own short h = unfold fitted in by-test (ltb space (length (make c))) (sym (settled-fixpoint refl) ∙ h)
+    where
+      by-test : (b : Bool) → ¬ ((elim b [ true ↦ refused 8 (length (make c)) 0 | false ↦ accepted (make c) ] >>= sized n) ≡ refused other place round)
+      by-test true q = short (cc)
+      by-test false q = let z : _≡_ {A = ℕ} 0 1 = cc in omega arith
+
 -- A call that makes something of the sizes that rounds from bounds inside the diagram's own end with
 module _ {d : Diagram} {low high : List ℕ} (form : WellFormed d) (i : Inside d low high) (number : ℕ) (other : ¬ (number ≡ 8))
     (call : ℕ → Outcome Sized) (make : List ℕ → List ℕ) (ends : (space : ℕ) → call space ≡ settledInto number make (verdictFrom d low high) space) where

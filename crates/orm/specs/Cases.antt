@@ -12,6 +12,7 @@ pub mod Subtypes
 pub mod SubtypeRanges
 pub mod RoleLimits
 pub mod SingleLimits
+pub mod Prescribed
 pub mod Several
 pub mod Broken
 pub mod Lines

@@ -8,5 +8,6 @@ pub mod Named
 pub mod Cells
 pub mod Bounds
 pub mod Rounds
+pub mod Prescribe
 pub mod SingleLimits
 pub mod Supertypes

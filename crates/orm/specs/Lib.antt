@@ -9,6 +9,7 @@ pub mod Population
 pub mod Populate
 pub mod Constraints
 pub mod Calls
+pub mod Prescribe
 pub mod SingleLimits
 pub mod LineReader
 pub mod Program

@@ -16,6 +16,7 @@ use Rattle.orm.specs.Population
 use Rattle.orm.specs.Populate
 use Rattle.orm.specs.Constraints
 use Rattle.orm.specs.Calls
+use Rattle.orm.specs.Prescribe
 use Rattle.orm.specs.SingleLimits
 use Rattle.orm.specs.LineReader
 use Rattle.orm.specs.Program
@@ -57,6 +58,7 @@ unfolding
     Constraints.firstFalse Constraints.firstBroken Constraints.answer
     Calls.diagramIn Calls.sizesBy Calls.sizesOf Calls.populationIn Calls.readCall Calls.writeCall Calls.settledInto Calls.checkCall Calls.populateCall
     Calls.validateCall
+    Prescribe.setIn Prescribe.raisedAt Prescribe.cappedAt Prescribe.prescribeCall
     SingleLimits.frontOf SingleLimits.numbered SingleLimits.startCall SingleLimits.lowerCall SingleLimits.surveyCall
     LineReader.lineLength LineReader.nextLine LineReader.positionAfter
     Program.predText Program.report Program.reported Program.output Program.program

@@ -6,7 +6,7 @@ use mathlib.Core.List.{List}
 use lib.ListN.{length, take}
 use lib.Seq.{length-take-le}
 use Rattle.orm.specs.Text.{tableLine}
-use Rattle.orm.specs.Sets.{lower, upper, limits, verdictFrom}
+use Rattle.orm.specs.Sets.{setCount, lower, upper, limits, verdictFrom}
 use Rattle.orm.specs.Outcome.{bufferAfter, written}
 use Rattle.orm.specs.Calls.{diagramIn, settledInto, checkCall}
 use Rattle.fixpoint.specs.Limits.{run}
@@ -22,12 +22,17 @@ use Rattle.buffer.specs.Laws.{wrote-end, wrote-front, wrote-within}
 use Rattle.table.specs.Positions.{diagramOf}
 use Rattle.table.specs.Valid.{Valid}
 use Rattle.table.specs.Laws.Valid.{sets-few}
-use Rattle.orm.specs.Laws.Bounds.{length-lower, bounds-paired, lower-few}
+use Rattle.orm.specs.Laws.Bounds.{length-lower, upper-sets, bounds-paired, lower-few}
 use Rattle.limits.specs.Prepared.{ValidTotals, Roomy, Prepared}
 use Rattle.limits.specs.declared.Extent.{Extent}
 use Rattle.limits.specs.Laws.Room.{limits-fit, few-limits-fit}
 use Rattle.limits.specs.Laws.Start.{start-bounds}
 use Rattle.bounds.specs.Answer.{Answered, unchanged, checked, Space}
+use Rattle.bounds.specs.Start.{lowerBy, upperBy, Starts, Posed}
+use Rattle.bounds.specs.Laws.Starts.{starts-inside}
+use Rattle.bounds.specs.declared.Start.{Start}
+use Rattle.bounds.specs.declared.Start.the-variants.{Own}
+use Rattle.bounds.specs.declared.Problem.{Problem}
 use Rattle.bounds.specs.declared.Settlement.{Settlement}
 use Rattle.bounds.specs.declared.Settlement.the-variants.{Refused}
 
@@ -44,7 +49,7 @@ module _ (t w : List ℕ) {w′ : List ℕ} {r : Acceptance} {n a b c d : ℕ} (
   known : Accepted t (take n w′) a b c d
   known = accepted-as t w p e ew
 
-  pub table-checked : {o o′ : List ℕ} {x : Settlement} → Answered (checked (take n w′) (length o)) x o o′ → Answered (checkCall t (length o)) x o o′
+  pub table-checked : {o o′ : List ℕ} {x : Settlement} → Answered (checked Own (take n w′) (length o)) x o o′ → Answered (checkCall t (length o)) x o o′
   unfolding checkCall
   table-checked h = rw (known .reads, checkCall) h
 
@@ -91,12 +96,17 @@ module _ {t ls low up next changed links : List ℕ} (space : Space t ls low up 
     upper-front : take (r .sets) up′ ≡ upper (diagramOf t)
     upper-front = wrote-front (p .upper-are) upper-fits
 
-    module _ {roles groups : ℕ} (known : ValidTotals t roles groups) where
+    module _ {q : Problem} (posed : Posed t q) where
       v : Valid t
-      v = known .valid
+      v = posed .totals .valid
 
-      pub check-bounds : Bounds (take (r .limits) ls′) (take (r .sets) low′) (take (r .sets) up′)
-      check-bounds = rw (limits-front, lower-front, upper-front) (start-bounds (diagramOf t) (v .formed))
+      pub check-starts : Starts (q .start) (length (take (r .sets) up′))
+      check-starts = let e : length (upper (diagramOf t)) ≡ setCount (diagramOf t) = upper-sets (diagramOf t) in rw (upper-front, e) (posed .starts)
+
+      pub check-bounds : Bounds (take (r .limits) ls′) (lowerBy (q .start) (take (r .sets) low′)) (upperBy (q .start) (take (r .sets) up′))
+      check-bounds =
+          rw (limits-front, lower-front, upper-front)
+          (start-bounds (diagramOf t) (v .formed) (starts-inside (q .start) (diagramOf t) (posed .starts)))
 
       pub check-scratch : length next′ ≡ length next
           → Scratch (take (r .limits) ls′) (take (r .sets) up′) (take (r .sets) next′) changed links
@@ -114,21 +124,26 @@ module _ {t ls low up next changed links : List ℕ} (space : Space t ls low up 
           }
 
       pub check-is : {o o′ : List ℕ} {a : Settlement}
-          → Answered (settledInto 7 unchanged (run (decode (take (r .limits) ls′)) (take (r .sets) low′) (take (r .sets) up′)) (length o)) a o o′
-          → Answered (checked t (length o)) a o o′
+          → Answered
+          (settledInto 7 unchanged
+          (run (decode (take (r .limits) ls′)) (lowerBy (q .start) (take (r .sets) low′)) (upperBy (q .start) (take (r .sets) up′))) (length o)) a o o′
+          → Answered (checked (q .start) t (length o)) a o o′
       unfolding verdictFrom
       check-is {o} h = rw (ap decode limits-front ∙ decode-encode (limits (diagramOf t)), lower-front, upper-front) at h
 
 -- ---- scratch that is set aside
 
-module _ {t : List ℕ} {roles groups : ℕ} (known : ValidTotals t roles groups) (a b c d e f : List ℕ) where
+module _ {t : List ℕ} {q : Problem} (posed : Posed t q) (a b c d e f : List ℕ) where
+  valid-so : Valid t
+  valid-so = posed .totals .valid
+
   few : length (lower (diagramOf t)) ≤ 208
-  few = lower-few (diagramOf t) (known .valid .formed)
+  few = lower-few (diagramOf t) (valid-so .formed)
 
   pub space-any : length a ≡ 3776 → length b ≡ 208 → length c ≡ 208 → length d ≡ 208 → length e ≡ 208 → length f ≡ 7760
       → Space t a b c d e f
   space-any ha hb hc hd he hf =
-      let m : length (encode (limits (diagramOf t))) ≤ 3776 = limits-fit (diagramOf t) (known .valid .formed) in
+      let m : length (encode (limits (diagramOf t))) ≤ 3776 = limits-fit (diagramOf t) (valid-so .formed) in
       record {
         limits-room = omega arith;
         lower-room = omega (arith, few);
@@ -142,8 +157,8 @@ module _ {t : List ℕ} {roles groups : ℕ} (known : ValidTotals t roles groups
       → Space t a b c d e f
   space-short h ha hb hc hd he hf =
       let m : length (encode (limits (diagramOf t))) ≤ 600 =
-      few-limits-fit (diagramOf t) (known .valid .formed) (omega (arith, ap length (known .valid .is))) in
-      let n : length (lower (diagramOf t)) ≤ 30 = omega (arith, sets-few t (known .valid), bounds-paired (diagramOf t)) in
+      few-limits-fit (diagramOf t) (valid-so .formed) (omega (arith, ap length (valid-so .is))) in
+      let n : length (lower (diagramOf t)) ≤ 30 = omega (arith, sets-few t valid-so, bounds-paired (diagramOf t)) in
       record {
         limits-room = omega arith;
         lower-room = omega arith;
@@ -152,3 +167,9 @@ module _ {t : List ℕ} {roles groups : ℕ} (known : ValidTotals t roles groups
         changed-room = omega arith;
         links-room = omega arith;
       }
+
+-- ---- what is to be settled
+
+pub posed-so : {t : List ℕ} {roles groups r g : ℕ} {x : Start} → ValidTotals t roles groups → Starts x (setCount (diagramOf t)) → r ≡ roles → g ≡ groups
+    → Posed t (record { roles = r; groups = g; start = x })
+posed-so known starts er eg = record { totals = rw (er, eg) known; starts = starts }

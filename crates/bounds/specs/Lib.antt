@@ -1,2 +1,3 @@
+pub mod Start
 pub mod Answer
 pub mod Laws

@@ -2,15 +2,19 @@
 // limits of the sets are written into local arrays, and the rounds run over them.
 use widening::Acceptance;
 ghost use mathlib.Core.Path.{_≡_};
-ghost use Prim.Native.Nat.{_≤_};
+ghost use Prim.Native.Nat.{_≤_, _<_};
 ghost use lib.ListN.{length};
 ghost use Rattle.fixpoint.specs.Limits.{fixpoint, run};
 ghost use Rattle.lowering.specs.Encoding.{decode};
 ghost use Rattle.rounds.specs.Answer.{Bounds, Scratch};
 ghost use Rattle.limits.specs.Prepared.{ValidTotals};
+ghost use Rattle.orm.specs.Sets.{setCount};
 ghost use Rattle.orm.specs.Outcome.{bufferAfter, written, handedBack};
 ghost use Rattle.orm.specs.Calls.{settledInto, checkCall};
+ghost use Rattle.orm.specs.Prescribe.{raisedAt, cappedAt};
 ghost use Rattle.reading.specs.WideTable.{mostNumbers};
+ghost use Rattle.table.specs.Positions.{diagramOf};
+ghost use Rattle.bounds.specs.Start.{lowerBy, upperBy, Starts, Narrowed, Posed};
 ghost use Rattle.bounds.specs.Answer.{settlementOf, Answered, unchanged, checked, Space};
 
 // How a check ends, or any call that makes something of the settled sizes: the table is refused (1 to
@@ -21,6 +25,57 @@ pub enum Settlement {
     Unsatisfiable { set: usize, round: u32 },
     TooShort { needed: usize },
     Accepted { length: usize, rounds: u32 },
+}
+
+// The bounds that the rounds start from: the diagram's own, or these with the set at this index kept to
+// one size.
+pub enum Start {
+    Own,
+    Kept { set: usize, size: u32 },
+}
+
+// What is to be settled of a diagram with so many roles and groups.
+struct Problem {
+    roles: u32,
+    groups: u32,
+    start: Start,
+}
+
+// ---- the rounds
+
+// A lower bound becomes the larger of itself and the size.
+fn raise(lower: &mut [u32], set: usize, size: u32)
+    requires { ⌜ set < length (now lower) ⌝ }
+    ensures { λ _. ⌜ now (lower .exit) ≡ raisedAt set size (now (lower .entry)) ⌝ }
+{
+    if lower[set] < size {
+        lower[set] = size;
+    }
+}
+
+// An upper bound becomes the smaller of itself and the size.
+fn cap(upper: &mut [u32], set: usize, size: u32)
+    requires { ⌜ set < length (now upper) ⌝ }
+    ensures { λ _. ⌜ now (upper .exit) ≡ cappedAt set size (now (upper .entry)) ⌝ }
+{
+    if size < upper[set] {
+        upper[set] = size;
+    }
+}
+
+// The bounds to start from, of the diagram's own.
+fn narrow(start: Start, lower: &mut [u32], upper: &mut [u32])
+    requires { ⌜ Starts start (length (now lower)) ⌝ }
+    requires { ⌜ Starts start (length (now upper)) ⌝ }
+    ensures { λ _. ⌜ Narrowed start (now (lower .entry)) (now (upper .entry)) (now (lower .exit)) (now (upper .exit)) ⌝ }
+{
+    match start {
+        Start::Own => {}
+        Start::Kept { set, size } => {
+            raise(lower, set, size);
+            cap(upper, set, size);
+        }
+    }
 }
 
 // The sizes go to the front of the buffer if it is long enough.
@@ -68,12 +123,36 @@ fn settle(
     }
 }
 
-// The check of a valid table with so many roles and groups; what stands between them and the sizes is
-// scratch, `next` first for the types of the roles.
+// The rounds from what these bounds are narrowed to.
+fn settle_from(
+    start: Start,
+    limits: &[u32],
+    lower: &mut [u32],
+    upper: &mut [u32],
+    next: &mut [u32],
+    changed: &mut [usize],
+    links: &mut [u32],
+    sizes: &mut [u32],
+) -> Settlement
+    requires { ⌜ Starts start (length (now upper)) ⌝ }
+    requires { ⌜ Bounds (now limits) (lowerBy start (now lower)) (upperBy start (now upper)) ⌝ }
+    requires { ⌜ Scratch (now limits) (now upper) (now next) (now changed) (now links) ⌝ }
+    ensures { λ r.
+        ⌜ Answered
+        (settledInto 7 unchanged
+        (run (decode (now (limits .entry))) (lowerBy start (now (lower .entry))) (upperBy start (now (upper .entry))))
+        (length (now (sizes .entry)))) r (now (sizes .entry)) (now (sizes .exit)) ⌝ }
+{
+    narrow(start, lower, upper);
+    settle(limits, lower, upper, next, changed, links, sizes)
+}
+
+// ---- the check of a valid table
+
+// What stands between the problem and the sizes is scratch, `next` first for the types of the roles.
 fn check_in(
     t: &[u32],
-    roles: u32,
-    groups: u32,
+    problem: Problem,
     limits: &mut [u32],
     lower: &mut [u32],
     upper: &mut [u32],
@@ -82,16 +161,18 @@ fn check_in(
     links: &mut [u32],
     sizes: &mut [u32],
 ) -> Settlement
-    requires { ⌜ ValidTotals (now t) roles groups ⌝ }
+    requires { ⌜ Posed (now t) problem ⌝ }
     requires { ⌜ Space (now t) (now limits) (now lower) (now upper) (now next) (now changed) (now links) ⌝ }
-    ensures { λ r. ⌜ Answered (checked (now (t .entry)) (length (now (sizes .entry)))) r (now (sizes .entry)) (now (sizes .exit)) ⌝ }
+    ensures { λ r. ⌜ Answered (checked (problem .start) (now (t .entry)) (length (now (sizes .entry)))) r (now (sizes .entry)) (now (sizes .exit)) ⌝ }
 {
-    let extent = limits::prepare(t, roles, groups, next, limits, lower, upper);
+    let extent = limits::prepare(t, problem.roles, problem.groups, next, limits, lower, upper);
+    let start = problem.start;
     let m = extent.limits;
     let n = extent.sets;
-    settle(
+    settle_from(
+        start,
         &limits[..m],
-        &lower[..n],
+        &mut lower[..n],
         &mut upper[..n],
         &mut next[..n],
         changed,
@@ -126,9 +207,9 @@ fn few_links() -> [u32; 1232] {
 }
 
 // Sets aside scratch for every table.
-fn check_any(t: &[u32], roles: u32, groups: u32, sizes: &mut [u32]) -> Settlement
-    requires { ⌜ ValidTotals (now t) roles groups ⌝ }
-    ensures { λ r. ⌜ Answered (checked (now (t .entry)) (length (now (sizes .entry)))) r (now (sizes .entry)) (now (sizes .exit)) ⌝ }
+fn check_any(t: &[u32], problem: Problem, sizes: &mut [u32]) -> Settlement
+    requires { ⌜ Posed (now t) problem ⌝ }
+    ensures { λ r. ⌜ Answered (checked (problem .start) (now (t .entry)) (length (now (sizes .entry)))) r (now (sizes .entry)) (now (sizes .exit)) ⌝ }
 {
     let mut limits = limits::limit_space();
     let mut lower = limits::set_space();
@@ -138,8 +219,7 @@ fn check_any(t: &[u32], roles: u32, groups: u32, sizes: &mut [u32]) -> Settlemen
     let mut links = link_space();
     check_in(
         t,
-        roles,
-        groups,
+        problem,
         &mut limits,
         &mut lower,
         &mut upper,
@@ -151,10 +231,10 @@ fn check_any(t: &[u32], roles: u32, groups: u32, sizes: &mut [u32]) -> Settlemen
 }
 
 // Sets aside scratch for a short table: clearing as much as for every table takes longer than its rounds.
-fn check_short(t: &[u32], roles: u32, groups: u32, sizes: &mut [u32]) -> Settlement
-    requires { ⌜ ValidTotals (now t) roles groups ⌝ }
+fn check_short(t: &[u32], problem: Problem, sizes: &mut [u32]) -> Settlement
+    requires { ⌜ Posed (now t) problem ⌝ }
     requires { ⌜ length (now t) ≤ 64 ⌝ }
-    ensures { λ r. ⌜ Answered (checked (now (t .entry)) (length (now (sizes .entry)))) r (now (sizes .entry)) (now (sizes .exit)) ⌝ }
+    ensures { λ r. ⌜ Answered (checked (problem .start) (now (t .entry)) (length (now (sizes .entry)))) r (now (sizes .entry)) (now (sizes .exit)) ⌝ }
 {
     let mut limits = few_limits();
     let mut lower = few_sets();
@@ -164,8 +244,7 @@ fn check_short(t: &[u32], roles: u32, groups: u32, sizes: &mut [u32]) -> Settlem
     let mut links = few_links();
     check_in(
         t,
-        roles,
-        groups,
+        problem,
         &mut limits,
         &mut lower,
         &mut upper,
@@ -176,16 +255,31 @@ fn check_short(t: &[u32], roles: u32, groups: u32, sizes: &mut [u32]) -> Settlem
     )
 }
 
-// Writes the sizes of the sets of a valid table's diagram, which has so many roles and groups.
-pub fn check_valid(t: &[u32], roles: usize, groups: usize, sizes: &mut [u32]) -> Settlement
+// Writes the sizes of the sets of a valid table's diagram, which has so many roles and groups, from these
+// bounds.
+pub fn check_valid(
+    t: &[u32],
+    roles: usize,
+    groups: usize,
+    start: Start,
+    sizes: &mut [u32],
+) -> Settlement
     requires { ⌜ ValidTotals (now t) roles groups ⌝ }
-    ensures { λ r. ⌜ Answered (checked (now (t .entry)) (length (now (sizes .entry)))) r (now (sizes .entry)) (now (sizes .exit)) ⌝ }
+    requires { ⌜ Starts start (setCount (diagramOf (now t))) ⌝ }
+    ensures { λ r. ⌜ Answered (checked start (now (t .entry)) (length (now (sizes .entry)))) r (now (sizes .entry)) (now (sizes .exit)) ⌝ }
 {
+    let problem = Problem {
+        roles: limits::count(roles),
+        groups: limits::count(groups),
+        start,
+    };
     if t.len() <= 64 {
-        return check_short(t, limits::count(roles), limits::count(groups), sizes);
+        return check_short(t, problem, sizes);
     }
-    check_any(t, limits::count(roles), limits::count(groups), sizes)
+    check_any(t, problem, sizes)
 }
+
+// ---- the check
 
 // The check of any table; `wide` is scratch.
 fn check_table(table: &[u32], wide: &mut [u32], sizes: &mut [u32]) -> Settlement
@@ -201,7 +295,7 @@ fn check_table(table: &[u32], wide: &mut [u32], sizes: &mut [u32]) -> Settlement
             preds: _,
             roles,
             groups,
-        } => check_valid(&wide[..length], roles, groups, sizes),
+        } => check_valid(&wide[..length], roles, groups, Start::Own, sizes),
     }
 }
 

@@ -32,6 +32,8 @@ use Rattle.widening.specs.declared.Acceptance.the-variants as acceptances
 use Rattle.limits.specs.Prepared.{ValidTotals}
 use Rattle.bounds.specs.Answer.{Answered, checked, Settled}
 use Rattle.bounds.specs.Laws.Ends.{told-short, told-accepted, Ends, emptied, settled, ends}
+use Rattle.bounds.specs.Laws.Starts.{starts-own}
+use Rattle.bounds.specs.declared.Start.the-variants.{Own}
 use Rattle.bounds.specs.declared.Settlement.{Settlement}
 use Rattle.bounds.specs.declared.Settlement.the-variants.{Refused, Unsatisfiable, TooShort, Accepted}
 use Rattle.bounds.proofs.Settlement.{the-type}
@@ -40,7 +42,7 @@ use Rattle.buffer.specs.Laws.{wrote-then, wrote-as, wrote-none}
 use Rattle.table.specs.Positions.{typeCount, diagramOf, Walkable}
 use Rattle.table.specs.Laws.Valid.{valid-walkable}
 use Rattle.table.specs.Laws.Walks.{each-length}
-use Rattle.populate.specs.Answer.{cellsOf, populated}
+use Rattle.populate.specs.Answer.{cellsOf, filled}
 use Rattle.populate.specs.Demand3.{ReadMeans, TableRead}
 use Rattle.populate.specs.Tied.{demand-3}
 use Rattle.report.specs.Printed.{printed}
@@ -113,53 +115,53 @@ accepted-not : {n rounds : ℕ} {r : Settlement} → r ≡ Accepted n rounds →
 accepted-not q k = ⊎-elim (λ z. absurd (omega arith)) (⊎-elim (λ z. absurd (omega arith)) (λ z. absurd (omega arith))) (rw q at k)
 
 module _ (t s s′ : List ℕ) {roles groups : ℕ} (a : Settlement) (known : ValidTotals t roles groups) (long : length s ≡ 208)
-    (h : Answered (checked t (length s)) a s s′) where
+    (h : Answered (checked Own t (length s)) a s s′) where
   pub check-refused : {o o′ : List ℕ} {r : ℕ} → OneOf (0 ∷ 1 ∷ 2 ∷ []) (tagOf the-type a) → Wrote o 0 (settlementLine a) o′ r
       → Wrote o 0 (reportOf (diagramOf t)) o′ r
-  check-refused {o} {o′} {r} k v = wrote-as v (go (ends t s s′ (known .valid) long a h))
+  check-refused {o} {o′} {r} k v = wrote-as v (go (ends Own t s s′ (known .valid) starts-own long a h))
     where
-      go : Ends t s s′ a → settlementLine a ≡ reportOf (diagramOf t)
+      go : Ends Own t s s′ a → settlementLine a ≡ reportOf (diagramOf t)
       go (emptied set n e q) = sym (line-emptied q refl) ∙ sym (emptied-report (diagramOf t) e)
       go (settled n c x w q) = absurd (accepted-not q k)
 
 -- ---- after populating
 
-module _ {t c : List ℕ} {rounds : ℕ} (x : Settled t c rounds) where
+module _ {t c : List ℕ} {rounds : ℕ} (x : Settled Own t c rounds) where
   pub table-walkable : Walkable t
   table-walkable = valid-walkable (x .valid)
 
-module _ (t c s s′ : List ℕ) (rounds : ℕ) (x : Settled t c rounds) (a : Settlement) (long : length s ≡ 16000)
-    (h : Answered (populated t (length s)) a s s′) where
+module _ (t c s s′ : List ℕ) (rounds : ℕ) (x : Settled Own t c rounds) (a : Settlement) (long : length s ≡ 16000)
+    (h : Answered (filled t rounds c (length s)) a s s′) where
   abbrev made : List ℕ
   made = cellsOf (diagramOf t) c
 
   abbrev then : Outcome (List ℕ) → Outcome Sized
   then o = o >>= λ w. accepted (record { rounds = rounds; result = w })
 
-  ends-so : populated t (length s) ≡ then (fitted (length s) made)
+  ends-so : filled t rounds c (length s) ≡ then (fitted (length s) made)
   unfolding settledInto sizesBy
-  ends-so = rw (x .ended, settledInto)
+  ends-so = refl
 
   -- the cells do not fit; or they do, and stand at the front of the buffer
   data Filled : Type 0 where
     short : 16000 < length made → a ≡ TooShort (length made) → Filled
     whole : length made ≤ 16000 → s′ ≡ made ++ drop (length made) s → a ≡ Accepted (length made) rounds → Filled
 
-  filled : Filled
+  either : Filled
   unfolding written bufferAfter
-  filled = go (decLe (length made) (length s))
+  either = go (decLe (length made) (length s))
     where
       go : Dec (length made ≤ length s) → Filled
       go (yes l) =
-          let e : populated t (length s) ≡ accepted (record { rounds = rounds; result = made }) = ends-so ∙ ap then (fits (length s) made l) in
+          let e : filled t rounds c (length s) ≡ accepted (record { rounds = rounds; result = made }) = ends-so ∙ ap then (fits (length s) made l) in
           whole (omega arith) (h .buffer ∙ ap (λ (o : Outcome Sized). bufferAfter (written o) s) e) (told-accepted a (h .handed ∙ ap handedBack e))
       go (no l) =
-          let e : populated t (length s) ≡ refused 8 (length made) 0 = ends-so ∙ ap then (does-not-fit (length s) made (omega arith)) in
+          let e : filled t rounds c (length s) ≡ refused 8 (length made) 0 = ends-so ∙ ap then (does-not-fit (length s) made (omega arith)) in
           short (omega arith) (told-short a (h .handed ∙ ap handedBack e))
 
   pub fill-refused : {o o′ : List ℕ} {r : ℕ} → OneOf (0 ∷ 1 ∷ 2 ∷ []) (tagOf the-type a) → Wrote o 0 (settlementLine a) o′ r
       → Wrote o 0 (reportOf (diagramOf t)) o′ r
-  fill-refused {o} {o′} {r} k v = wrote-as v (go filled)
+  fill-refused {o} {o′} {r} k v = wrote-as v (go either)
     where
       go : Filled → settlementLine a ≡ reportOf (diagramOf t)
       go (short l q) = sym (line-short q) ∙ sym (large-report (diagramOf t) (x .ended) l)
@@ -172,7 +174,7 @@ module _ (t c s s′ : List ℕ) (rounds : ℕ) (x : Settled t c rounds) (a : Se
       buffer : s′ ≡ made ++ drop (length made) s
 
     front : Front
-    front = go filled
+    front = go either
       where
         go : Filled → Front
         go (short l e) = let z : _≡_ {A = ℕ} 0 1 = cc in absurd (omega arith)

@@ -8,6 +8,7 @@ ghost use Rattle.reading.specs.WideTable.{mostNumbers};
 ghost use Rattle.table.specs.Positions.{diagramOf};
 ghost use Rattle.limits.specs.Prepared.{ValidTotals};
 ghost use Rattle.bounds.specs.Answer.{Settled};
+ghost use Rattle.bounds.specs.declared.Start.the-variants.{Own};
 ghost use Rattle.command.specs.Reports.{refusalLine, settlementLine, reportOf, textReport, tableReport};
 
 // So many bytes of the input are read.
@@ -47,7 +48,7 @@ fn push_refused(out: &mut [u8], answer: bounds::Settlement) -> usize
 
 // What is printed of a valid table whose sizes have settled; `cells` is scratch.
 fn print_cells(t: &[u32], sizes: &[u32], rounds: u32, cells: &mut [u32], out: &mut [u8]) -> usize
-    requires { ⌜ Settled (now t) (now sizes) rounds ⌝ }
+    requires { ⌜ Settled Own (now t) (now sizes) rounds ⌝ }
     requires { ⌜ length (now cells) ≡ 16000 ⌝ }
     ensures { λ r. ⌜ Wrote (now (out .entry)) 0 (reportOf (diagramOf (now (t .entry)))) (now (out .exit)) r ⌝ }
 {
@@ -72,15 +73,11 @@ fn print_sizes(
     requires { ⌜ length (now cells) ≡ 16000 ⌝ }
     ensures { λ r. ⌜ Wrote (now (out .entry)) 0 (reportOf (diagramOf (now (t .entry)))) (now (out .exit)) r ⌝ }
 {
-    let answer = bounds::check_valid(t, roles, groups, sizes);
+    let answer = bounds::check_valid(t, roles, groups, bounds::Start::Own, sizes);
     let bounds::Settlement::Accepted { length, rounds } = answer else {
         return push_refused(out, answer);
     };
     print_cells(t, &sizes[..length], rounds, cells, out)
-}
-
-fn set_space() -> [u32; 208] {
-    [0u32; 208]
 }
 
 fn cell_space() -> [u32; 16000] {
@@ -91,7 +88,7 @@ fn print_valid(t: &[u32], roles: usize, groups: usize, out: &mut [u8]) -> usize
     requires { ⌜ ValidTotals (now t) roles groups ⌝ }
     ensures { λ r. ⌜ Wrote (now (out .entry)) 0 (reportOf (diagramOf (now (t .entry)))) (now (out .exit)) r ⌝ }
 {
-    let mut sizes = set_space();
+    let mut sizes = limits::set_space();
     let mut cells = cell_space();
     print_sizes(t, roles, groups, &mut sizes, &mut cells, out)
 }

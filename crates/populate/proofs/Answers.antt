@@ -8,6 +8,7 @@ use lib.ListN.{length, take}
 use types.Run.{OneOf}
 use denote.Enum.Declared.{tagOf}
 use Rattle.orm.specs.Text.{tableLine}
+use Rattle.orm.specs.Sets.{setCount}
 use Rattle.orm.specs.Outcome.{Outcome, accepted, _>>=_, fitted, bufferAfter, Sized, written}
 use Rattle.orm.specs.Calls.{diagramIn, sizesBy, settledInto, populateCall}
 use Rattle.reading.specs.Laws.{fits, does-not-fit}
@@ -18,8 +19,10 @@ use Rattle.widening.specs.declared.Acceptance.{Acceptance}
 use Rattle.widening.specs.declared.Acceptance.the-variants as acceptances
 use Rattle.limits.specs.Prepared.{ValidTotals}
 use Rattle.bounds.specs.Answer.{Answered, checked, Settled}
-use Rattle.bounds.specs.Laws.Sizes.{sizes-small}
-use Rattle.bounds.specs.Laws.Ends.{Ends, emptied, settled, ends}
+use Rattle.bounds.specs.Start.{Starts}
+use Rattle.bounds.specs.declared.Start.{Start}
+use Rattle.bounds.specs.declared.Start.the-variants.{Own}
+use Rattle.bounds.specs.Laws.Ends.{Ends, emptied, settled, ends, sizes-settled}
 use Rattle.bounds.specs.declared.Settlement.{Settlement}
 use Rattle.bounds.proofs.Settlement.{the-type}
 use Rattle.bounds.specs.declared.Settlement.the-variants.{Refused, TooShort, Accepted}
@@ -27,49 +30,59 @@ use Rattle.buffer.specs.Written.{Wrote}
 use Rattle.buffer.specs.Laws.{wrote-whole}
 use Rattle.table.specs.Positions.{diagramOf}
 use Rattle.tuples.specs.Steps.{Small}
-use Rattle.populate.specs.Answer.{cellsOf, populated}
+use Rattle.populate.specs.Answer.{cellsOf, filled, populated}
+use Rattle.populate.specs.Laws.{settled-small}
 
 -- ---- the cells in the buffer
 
-module _ {t c : List ℕ} {rounds : ℕ} (s : Settled t c rounds) where
-  pub settled-small : Small c
-  settled-small = record { at = sizes-small (diagramOf t) (s .valid .formed) (s .ended) }
+module _ (t c o : List ℕ) (rounds : ℕ) where
+  abbrev made : List ℕ
+  made = cellsOf (diagramOf t) c
 
-  module _ (o : List ℕ) where
-    abbrev made : List ℕ
-    made = cellsOf (diagramOf t) c
+  abbrev then : Outcome (List ℕ) → Outcome Sized
+  then q = q >>= λ w. accepted (record { rounds = rounds; result = w })
 
-    ends-so : populated t (length o) ≡ (fitted (length o) made >>= λ w. accepted (record { rounds = rounds; result = w }))
-    unfolding settledInto sizesBy
-    ends-so = rw (s .ended, settledInto)
+  ends-so : filled t rounds c (length o) ≡ then (fitted (length o) made)
+  unfolding settledInto sizesBy
+  ends-so = refl
 
-    abbrev then : Outcome (List ℕ) → Outcome Sized
-    then q = q >>= λ w. accepted (record { rounds = rounds; result = w })
+  pub fit-short : {n : ℕ} → n ≡ length made → length o < n → Answered (filled t rounds c (length o)) (TooShort n) o o
+  unfolding written bufferAfter
+  fit-short e h = rw (ends-so ∙ ap then (does-not-fit (length o) made (rw (← e) h)), e) (record { handed = refl; buffer = refl })
 
-    pub fit-short : {n : ℕ} → n ≡ length made → length o < n → Answered (populated t (length o)) (TooShort n) o o
-    unfolding written bufferAfter
-    fit-short e h = rw (ends-so ∙ ap then (does-not-fit (length o) made (rw (← e) h)), e) (record { handed = refl; buffer = refl })
+  pub fit-whole : {n to : ℕ} {o′ : List ℕ} → n ≡ length made → n ≤ length o → Wrote o 0 made o′ to
+      → Answered (filled t rounds c (length o)) (Accepted n rounds) o o′
+  unfolding written bufferAfter
+  fit-whole e h w =
+      let l : length made ≤ length o = rw (← e) h in
+      rw (ends-so ∙ ap then (fits (length o) made l), e) (record { handed = refl; buffer = wrote-whole w l })
 
-    pub fit-whole : {n to : ℕ} {o′ : List ℕ} → n ≡ length made → n ≤ length o → Wrote o 0 made o′ to
-        → Answered (populated t (length o)) (Accepted n rounds) o o′
-    unfolding written bufferAfter
-    fit-whole e h w =
-        let l : length made ≤ length o = rw (← e) h in
-        rw (ends-so ∙ ap then (fits (length o) made l), e) (record { handed = refl; buffer = wrote-whole w l })
+-- ---- the sizes that the check has settled on
+
+module _ (x : Start) (t s : List ℕ) {s′ : List ℕ} {roles groups : ℕ} (r : Settlement) {n k : ℕ} (p : r ≡ Accepted k n) (known : ValidTotals t roles groups)
+    (starts : Starts x (setCount (diagramOf t))) (room : length s ≡ 208) (h : Answered (checked x t (length s)) r s s′) where
+  ended : Settled x t (take k s′) n
+  ended = sizes-settled x t s r p known starts room h
+
+  pub front-small : Small (take k s′)
+  front-small = settled-small ended
+
+  pub front-filled : {o o′ : List ℕ} {a : Settlement} → Answered (filled t n (take k s′) (length o)) a o o′ → Answered (populated x t (length o)) a o o′
+  front-filled w = rw (ended .ended) w
 
 -- ---- the check's refusals are handed on
 
-module _ (t s b : List ℕ) {s′ : List ℕ} {roles groups : ℕ} (r : Settlement) (known : ValidTotals t roles groups) (room : length s ≡ 208)
-    (h : Answered (checked t (length s)) r s s′) where
+module _ (x : Start) (t s b : List ℕ) {s′ : List ℕ} {roles groups : ℕ} (r : Settlement) (known : ValidTotals t roles groups)
+    (starts : Starts x (setCount (diagramOf t))) (room : length s ≡ 208) (h : Answered (checked x t (length s)) r s s′) where
   -- the position among the answers tells that it is none of acceptance
-  stays : Ends t s s′ r → OneOf (0 ∷ 1 ∷ 2 ∷ []) (tagOf the-type r) → Answered (populated t (length b)) r b b
+  stays : Ends x t s s′ r → OneOf (0 ∷ 1 ∷ 2 ∷ []) (tagOf the-type r) → Answered (populated x t (length b)) r b b
   unfolding settledInto sizesBy written bufferAfter
   stays (emptied set n e q) k = rw (e, q, settledInto) (record { handed = refl; buffer = refl })
-  stays (settled n c x w q) k =
+  stays (settled n c y w q) k =
       ⊎-elim (λ z. absurd (omega arith)) (⊎-elim (λ z. absurd (omega arith)) (λ z. absurd (omega arith))) (rw q at k)
 
-  pub refused-on : OneOf (0 ∷ 1 ∷ 2 ∷ []) (tagOf the-type r) → Answered (populated t (length b)) r b b
-  refused-on k = stays (ends t s s′ (known .valid) room r h) k
+  pub refused-on : OneOf (0 ∷ 1 ∷ 2 ∷ []) (tagOf the-type r) → Answered (populated x t (length b)) r b b
+  refused-on k = stays (ends x t s s′ (known .valid) starts room r h) k
 
 -- ---- any table
 
@@ -81,7 +94,7 @@ module _ (t b : List ℕ) {r : Acceptance} {f : Fault} {line : ℕ} (p : r ≡ a
 
 module _ (t w : List ℕ) {w′ : List ℕ} {r : Acceptance} {n types preds roles groups : ℕ} (p : r ≡ acceptances.Widened n types preds roles groups)
     (e : acceptanceOf r ≡ described (diagramIn tableLine t)) (ew : w′ ≡ bufferAfter (widened t) w) where
-  pub table-populated : {o o′ : List ℕ} {x : Settlement} → Answered (populated (take n w′) (length o)) x o o′
+  pub table-populated : {o o′ : List ℕ} {x : Settlement} → Answered (populated Own (take n w′) (length o)) x o o′
       → Answered (populateCall t (length o)) x o o′
   unfolding populateCall
   table-populated h = rw (accepted-as t w p e ew .reads, populateCall) h

@@ -1,3 +1,4 @@
 pub mod Answer
+pub mod Laws
 pub mod Demand3
 pub mod Tied

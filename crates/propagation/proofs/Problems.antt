@@ -12,6 +12,7 @@ use Rattle.orm.specs.Outcome.{Outcome, refused, accepted, fitted, bufferAfter}
 use Rattle.orm.specs.Calls.{diagramIn}
 use Rattle.orm.specs.SingleLimits.{startCall}
 use Rattle.orm.specs.Laws.Bounds.{upper-sets}
+use Rattle.orm.specs.Laws.Rounds.{own-bounds}
 use Rattle.grammar.specs.declared.Fault.{Fault}
 use Rattle.grammar.specs.Fault.{numberOf}
 use Rattle.reader.specs.declared.Conversion.{Conversion}
@@ -156,4 +157,4 @@ module _ {o : Outcome Diagram} {r : Problem} {l : List ℕ} (w : Posed o r l) wh
     limits-closed =
         subst⁻¹ (λ (xs : List ℕ). Closed xs n) (stated .limits-are)
         (subst⁻¹ (λ (k : ℕ). Closed (encode (limits (stated .of))) k) (stated .sets-are ∙ sym (upper-sets (stated .of)))
-        (start-bounds (stated .of) (stated .formed) .closed))
+        (start-bounds (stated .of) (stated .formed) (own-bounds (stated .of)) .closed))

@@ -2,6 +2,7 @@
 -- Assumes nothing.
 use Rattle.widening.specs.Laws.Accepts.{accepted-within, accepted-front}
 use Rattle.bounds.specs.Laws.Tables.{table-totals}
+use Rattle.bounds.specs.Laws.Starts.{starts-own}
 use Rattle.bounds.proofs.Tables.{table-refused, table-checked}
 use borrow.Author.Needs.{needs}
 use Rattle.bounds.proofs.check_table.Statement.{statement}
@@ -16,7 +17,7 @@ check-table-spec =
     (λ c. search needs)
     (λ c. search (needs, accepted-within))
     (λ c. search (needs, accepted-front))
-    (λ c κs. search (needs, table-totals))
+    (λ c κs. search (needs, table-totals, starts-own))
     (λ c. search needs)
     (λ c. search (needs, table-refused))
     (λ c. search needs)

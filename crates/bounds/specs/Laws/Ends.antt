@@ -6,7 +6,7 @@ use mathlib.Core.List.{List, _++_}
 use lib.ListN.{length, take, drop, length-append}
 use lib.Seq.{take-append-seam, length-take-le}
 use Rattle.fixpoint.specs.Limits.{Verdict, unsatisfiable, fixpoint}
-use Rattle.orm.specs.Sets.{verdict}
+use Rattle.orm.specs.Sets.{setCount}
 use Rattle.orm.specs.Outcome.{Outcome, refused, accepted, bufferAfter, Sized, written, Handed, handedBack}
 use Rattle.orm.specs.Calls.{sizesBy, settledInto}
 use Rattle.reading.specs.Laws.{fits}
@@ -16,7 +16,10 @@ use Rattle.table.specs.Positions.{diagramOf}
 use Rattle.table.specs.Valid.{Valid}
 use Rattle.limits.specs.Prepared.{ValidTotals}
 use Rattle.bounds.specs.Answer.{settlementOf, Answered, unchanged, checked, Settled}
+use Rattle.bounds.specs.Start.{verdictBy, Starts}
+use Rattle.bounds.specs.Laws.Starts.{starts-inside}
 use Rattle.bounds.specs.Laws.Sizes.{sizes-few}
+use Rattle.bounds.specs.declared.Start.{Start}
 use Rattle.bounds.specs.declared.Settlement.{Settlement}
 use Rattle.bounds.specs.declared.Settlement.the-variants.{Refused, Unsatisfiable, TooShort, Accepted}
 
@@ -64,32 +67,33 @@ module _ {before after : List ℕ} {r : Settlement} where
 
 -- ---- a set is emptied; or the sizes have settled, and stand at the front of the buffer
 
-pub data Ends (t before after : List ℕ) (r : Settlement) : Type 0 where
-  emptied : (set n : ℕ) → verdict (diagramOf t) ≡ unsatisfiable set n → r ≡ Unsatisfiable (suc set) n → Ends t before after r
-  settled : (n : ℕ) (c : List ℕ) → Settled t c n → after ≡ c ++ drop (length c) before → r ≡ Accepted (length c) n → Ends t before after r
+pub data Ends (x : Start) (t before after : List ℕ) (r : Settlement) : Type 0 where
+  emptied : (set n : ℕ) → verdictBy x (diagramOf t) ≡ unsatisfiable set n → r ≡ Unsatisfiable (suc set) n → Ends x t before after r
+  settled : (n : ℕ) (c : List ℕ) → Settled x t c n → after ≡ c ++ drop (length c) before → r ≡ Accepted (length c) n → Ends x t before after r
 
-module _ (t before after : List ℕ) (v : Valid t) (room : length before ≡ 208) (r : Settlement)
-    (h : Answered (checked t (length before)) r before after) where
-  pub ends : Ends t before after r
-  ends = go (verdict (diagramOf t)) refl h
+module _ (x : Start) (t before after : List ℕ) (v : Valid t) (starts : Starts x (setCount (diagramOf t)))
+    (room : length before ≡ 208) (r : Settlement) (h : Answered (checked x t (length before)) r before after) where
+  pub ends : Ends x t before after r
+  ends = go (verdictBy x (diagramOf t)) refl h
     where
-      go : (x : Verdict) → verdict (diagramOf t) ≡ x → Answered (settledInto 7 unchanged x (length before)) r before after → Ends t before after r
+      go : (o : Verdict) → verdictBy x (diagramOf t) ≡ o → Answered (settledInto 7 unchanged o (length before)) r before after → Ends x t before after r
       go (unsatisfiable set n) e a = emptied set n e (told-emptied r (unsatisfiable-so set n a))
       go (fixpoint n c) e a =
-          let few : length c ≤ length before = omega (arith, sizes-few (diagramOf t) (v .formed) e) in
-          settled n c (record { valid = v; ended = e }) (settled-buffer n c few a) (told-accepted r (settled-handed n c few a))
+          let few : length c ≤ length before = omega (arith, sizes-few (diagramOf t) (v .formed) (starts-inside x (diagramOf t) starts) e) in
+          settled n c (record { valid = v; starts = starts; ended = e }) (settled-buffer n c few a) (told-accepted r (settled-handed n c few a))
 
 -- ---- the sizes at the front
 
-module _ (t before : List ℕ) {after : List ℕ} {roles groups : ℕ} (r : Settlement) {n k : ℕ} (p : r ≡ Accepted k n) (known : ValidTotals t roles groups)
-    (room : length before ≡ 208) (h : Answered (checked t (length before)) r before after) where
+module _ (x : Start) (t before : List ℕ) {after : List ℕ} {roles groups : ℕ} (r : Settlement) {n k : ℕ} (p : r ≡ Accepted k n)
+    (known : ValidTotals t roles groups) (starts : Starts x (setCount (diagramOf t))) (room : length before ≡ 208)
+    (h : Answered (checked x t (length before)) r before after) where
   record Front : Type 0 where
     sizes : List ℕ
     count : k ≡ length sizes
-    sound : Settled t sizes n
+    sound : Settled x t sizes n
     buffer : after ≡ sizes ++ drop (length sizes) before
 
-  front-of : Ends t before after r → Front
+  front-of : Ends x t before after r → Front
   front-of (emptied set m v e) = let z : _≡_ {A = ℕ} 0 1 = cc in absurd (omega arith)
   front-of (settled m c s w e) =
       let ek : k ≡ length c = cc in
@@ -97,7 +101,7 @@ module _ (t before : List ℕ) {after : List ℕ} {roles groups : ℕ} (r : Sett
       record { sizes = c; count = ek; sound = rw en s; buffer = w }
 
   here : Front
-  here = front-of (ends t before after (known .valid) room r h)
+  here = front-of (ends x t before after (known .valid) starts room r h)
 
   pub sizes-within : k ≤ length after
   sizes-within = omega (arith, here .count, ap length (here .buffer), length-append (here .sizes) (drop (length (here .sizes)) before))
@@ -105,7 +109,7 @@ module _ (t before : List ℕ) {after : List ℕ} {roles groups : ℕ} (r : Sett
   pub sizes-count : k ≡ length (take k after)
   sizes-count = sym (length-take-le k after sizes-within)
 
-  pub sizes-settled : Settled t (take k after) n
+  pub sizes-settled : Settled x t (take k after) n
   sizes-settled =
       let front : take k after ≡ here .sizes =
       ap (take k) (here .buffer) ∙ ap (λ (m : ℕ). take m (here .sizes ++ drop (length (here .sizes)) before)) (here .count)

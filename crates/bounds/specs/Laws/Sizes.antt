@@ -6,24 +6,25 @@ use mathlib.Core.List.{List}
 use lib.ListN.{length, getD}
 use Rattle.counting.specs.Laws.Members.{each-getD}
 use Rattle.fixpoint.specs.Limits.{fixpoint}
-use Rattle.fixpoint.specs.Notions.{Solution}
+use Rattle.fixpoint.specs.Notions.{_≼_, Solution}
+use Rattle.fixpoint.specs.Laws.Order.{≼-trans}
 use Rattle.orm.specs.Diagram.{Diagram}
-use Rattle.orm.specs.Sets.{upper, limits, verdict, verdictFrom}
+use Rattle.orm.specs.Sets.{upper, limits, verdictFrom}
 use Rattle.orm.specs.WellFormed.{WellFormed}
-use Rattle.orm.specs.Laws.Rounds.{verdict-laws}
+use Rattle.orm.specs.Laws.Rounds.{Inside, inside-laws}
 use Rattle.orm.specs.Laws.Bounds.{upper-few, upper-small}
 
-module _ (d : Diagram) (w : WellFormed d) {n : ℕ} {c : List ℕ} (e : verdict d ≡ fixpoint n c) where
-  solution : Solution (limits d) (upper d) c
+module _ (d : Diagram) (w : WellFormed d) {low high : List ℕ} (i : Inside d low high) {n : ℕ} {c : List ℕ} (e : verdictFrom d low high ≡ fixpoint n c) where
+  solution : Solution (limits d) high c
   unfolding verdictFrom
-  solution = verdict-laws d .at-fixpoint e .solution
+  solution = inside-laws i .at-fixpoint e .solution
+
+  under : c ≼ upper d
+  under = ≼-trans (solution .under) (i .≼-upper)
 
   -- as many as there are sets
-  sizes-sets : length c ≡ length (upper d)
-  sizes-sets = solution .under .sized
-
   pub sizes-few : length c ≤ 208
-  sizes-few = omega (arith, sizes-sets, upper-few d w)
+  sizes-few = omega (arith, under .sized, upper-few d w)
 
   pub sizes-small : (k : ℕ) → getD c k 0 ≤ 4096
-  sizes-small k = omega (arith, solution .under .entry k, each-getD (_≤ 4096) (upper d) 0 (upper-small d w) (omega arith) k)
+  sizes-small k = omega (arith, under .entry k, each-getD (_≤ 4096) (upper d) 0 (upper-small d w) (omega arith) k)

@@ -1,5 +1,6 @@
 -- `command::print_cells` meets its contract. What populating promises decides what is printed.
 -- Assumes nothing.
+use Rattle.populate.specs.Laws.{settled-small}
 use Rattle.command.proofs.Prints.{fill-refused, cells-within, cells-count, table-walkable, fill-printed}
 use borrow.Author.Needs.{needs}
 use Rattle.command.proofs.print_cells.Statement.{statement}
@@ -9,7 +10,7 @@ pub print-cells-spec : {M : Type 1} → statement M
 print-cells-spec =
     tie.close
     (tie.spec
-    (λ c κs. search needs)
+    (λ c κs. search (needs, settled-small))
     (λ c. search needs)
     (λ c κs. search needs)
     (λ c. search needs)

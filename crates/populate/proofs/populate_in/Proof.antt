@@ -1,7 +1,7 @@
 -- `populate::populate_in` meets its contract. What the check promises decides the answer.
 -- Assumes nothing.
-use Rattle.bounds.specs.Laws.Ends.{sizes-within, sizes-count, sizes-settled}
-use Rattle.populate.proofs.Answers.{refused-on}
+use Rattle.bounds.specs.Laws.Ends.{sizes-within, sizes-count}
+use Rattle.populate.proofs.Answers.{front-small, front-filled, refused-on}
 use borrow.Author.Needs.{needs}
 use Rattle.populate.proofs.populate_in.Statement.{statement}
 use Rattle.populate.proofs.populate_in.Tie as tie
@@ -16,7 +16,7 @@ populate-in-spec =
     (λ c. search (needs, refused-on))
     (λ c. search (needs, sizes-within))
     (λ c. search (needs, sizes-count))
-    (λ c κs. search (needs, sizes-settled))
+    (λ c κs. search (needs, front-small))
     (λ c. search needs)
     (λ c. search needs)
-    (λ c. search needs))
+    (λ c. search (needs, front-filled)))

@@ -2,6 +2,7 @@
 -- Assumes nothing.
 use Rattle.widening.specs.Laws.Accepts.{accepted-within, accepted-front}
 use Rattle.bounds.specs.Laws.Tables.{table-totals}
+use Rattle.bounds.specs.Laws.Starts.{starts-own}
 use Rattle.populate.proofs.Answers.{table-refused, table-populated}
 use borrow.Author.Needs.{needs}
 use Rattle.populate.proofs.populate_table.Statement.{statement}
@@ -16,7 +17,7 @@ populate-table-spec =
     (λ c. search needs)
     (λ c. search (needs, accepted-within))
     (λ c. search (needs, accepted-front))
-    (λ c κs. search (needs, table-totals))
+    (λ c κs. search (needs, table-totals, starts-own))
     (λ c. search needs)
     (λ c. search (needs, table-refused))
     (λ c. search needs)

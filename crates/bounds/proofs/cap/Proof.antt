@@ -1,0 +1,18 @@
+-- `bounds::cap` meets its contract. The smaller of the two stands there.
+-- Assumes nothing.
+use Rattle.bounds.proofs.Narrowing.{capped-to, capped-not}
+use borrow.Author.Needs.{needs}
+use Rattle.bounds.proofs.cap.Statement.{statement}
+use Rattle.bounds.proofs.cap.Tie as tie
+
+pub cap-spec : {M : Type 1} → statement M
+cap-spec =
+    tie.close
+    (tie.spec
+    (λ c. search needs)
+    (λ c. search needs)
+    (λ c. search needs)
+    (λ c. search needs)
+    (λ c. search needs)
+    (λ c. search (needs, capped-to))
+    (λ c. search (needs, capped-not)))

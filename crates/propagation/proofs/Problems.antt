@@ -5,9 +5,9 @@ use mathlib.Core.Path.{_≡_, refl, sym, ap, subst⁻¹, _∙_}
 use mathlib.Core.List.{List}
 use lib.ListN.{length, take}
 use lib.Seq.{length-take-le}
-use Rattle.orm.specs.Diagram.{Diagram, Totals, totals, allRoles, allGroups}
+use Rattle.orm.specs.Diagram.{Diagram, allRoles}
 use Rattle.orm.specs.Text.{tableLine}
-use Rattle.orm.specs.Sets.{firstPred, firstRole, firstGroup, setCount, upper, limits}
+use Rattle.orm.specs.Sets.{upper, limits}
 use Rattle.orm.specs.Outcome.{Outcome, refused, accepted, fitted, bufferAfter}
 use Rattle.orm.specs.Calls.{diagramIn}
 use Rattle.orm.specs.SingleLimits.{startCall}
@@ -19,6 +19,7 @@ use Rattle.reader.specs.declared.Conversion.{Conversion}
 use Rattle.reader.specs.declared.Conversion.the-variants as conversions
 use Rattle.widening.specs.Answer.{acceptanceOf, described, widened, Accepted}
 use Rattle.widening.specs.Laws.Accepts.{accepted-refused, accepted-as}
+use Rattle.widening.specs.Laws.Counts.{accepted-roles, accepted-groups, accepted-sets}
 use Rattle.widening.specs.declared.Acceptance.{Acceptance}
 use Rattle.widening.specs.declared.Acceptance.the-variants as acceptances
 use Rattle.buffer.specs.Written.{Wrote}
@@ -32,7 +33,7 @@ use Rattle.limits.specs.Prepared.{Listable}
 use Rattle.limits.specs.Laws.Room.{limits-fit}
 use Rattle.limits.specs.Laws.Start.{start-bounds}
 use Rattle.propagation.specs.Answer.{Converted}
-use Rattle.propagation.specs.Posed.{Few, Counted, Bounded, Stated, Posed}
+use Rattle.propagation.specs.Posed.{Counted, Bounded, Stated, Posed}
 use Rattle.propagation.specs.declared.Problem.{Problem}
 use Rattle.propagation.specs.declared.Problem.the-variants.{Refused, Ready}
 
@@ -75,51 +76,11 @@ module _ (t : List ℕ) {r : Acceptance} (e : acceptanceOf r ≡ described (diag
     known : Accepted t (take n w′) types preds roles groups
     known = accepted-as t w p e ew
 
-    d : Diagram
-    d = diagramOf (take n w′)
-
-    totals-as : totals d ≡ record { types = types; preds = preds; roles = roles; groups = groups }
-    unfolding d
-    totals-as = known .totals-are
-
-    types-as : length (d .types) ≡ types
-    unfolding totals
-    types-as = ap (λ (x : Totals). x .types) totals-as
-
-    preds-as : length (d .preds) ≡ preds
-    unfolding totals
-    preds-as = ap (λ (x : Totals). x .preds) totals-as
-
-    roles-as : length (allRoles d) ≡ roles
-    unfolding totals
-    roles-as = ap (λ (x : Totals). x .roles) totals-as
-
-    groups-as : length (allGroups d) ≡ groups
-    unfolding totals
-    groups-as = ap (λ (x : Totals). x .groups) totals-as
-
-    pub totals-few : Few types preds roles groups
-    unfolding d
-    totals-few =
-        let w = known .valid .formed in
-        record {
-          few-types = omega (arith, types-as, w .typeCount .1);
-          few-preds = omega (arith, preds-as, w .predCount .1);
-          few-roles = omega (arith, roles-as, w .roleCount);
-          few-groups = omega (arith, groups-as, w .groupCount);
-        }
-
-    sets-as : {sets : ℕ} → sets ≡ types + preds + roles + groups → sets ≡ setCount (diagramOf (take n w′))
-    unfolding setCount firstGroup firstRole firstPred d
-    sets-as e = omega (arith, types-as, preds-as, roles-as, groups-as)
-
     pub table-counted : {sets : ℕ} → sets ≡ types + preds + roles + groups → Counted (take n w′) roles sets
-    unfolding d
-    table-counted e = record { valid = known .valid; roles-are = sym roles-as; sets-are = sets-as e }
+    table-counted q = record { valid = known .valid; roles-are = accepted-roles t w p e ew; sets-are = accepted-sets t w p e ew q }
 
     pub table-bounded : {sets : ℕ} → sets ≡ types + preds + roles + groups → Bounded (take n w′) groups sets
-    unfolding d
-    table-bounded e = record { valid = known .valid; groups-are = sym groups-as; sets-are = sets-as e }
+    table-bounded q = record { valid = known .valid; groups-are = accepted-groups t w p e ew; sets-are = accepted-sets t w p e ew q }
 
     pub posed-widened : {x : Problem} {l : List ℕ} → Posed (accepted (diagramOf (take n w′))) x l → Posed (diagramIn tableLine t) x l
     posed-widened h = rw (known .reads) h

@@ -14,13 +14,6 @@ use Rattle.grammar.specs.Fault.{numberOf}
 use Rattle.propagation.specs.declared.Problem.{Problem}
 use Rattle.propagation.specs.declared.Problem.the-variants.{Refused, Ready}
 
--- So many types, predicates, roles and groups as a diagram can have
-pub record Few (types preds roles groups : ℕ) : Type 0 where
-  pub few-types : types ≤ 32
-  pub few-preds : preds ≤ 32
-  pub few-roles : roles ≤ 96
-  pub few-groups : groups ≤ 48
-
 -- A valid table, and how many roles, or groups, and sets its diagram has
 pub record Counted (t : List ℕ) (roles sets : ℕ) : Type 0 where
   pub valid : Valid t

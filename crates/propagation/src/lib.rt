@@ -3,7 +3,6 @@
 use reader::Conversion;
 use widening::Acceptance;
 ghost use mathlib.Core.Path.{_≡_};
-ghost use Prim.Native.Nat.{_+_};
 ghost use lib.ListN.{length};
 ghost use Rattle.orm.specs.Text.{tableLine};
 ghost use Rattle.orm.specs.Outcome.{accepted, fitted, lengthOf, bufferAfter};
@@ -16,7 +15,7 @@ ghost use Rattle.lowering.specs.Encoding.{limitAt, decode};
 ghost use Rattle.lowering.specs.Closed.{Whole, Closed};
 ghost use Rattle.reader.specs.Answer.{conversionOf};
 ghost use Rattle.propagation.specs.Answer.{propagationOf, Converted, Stepped, Surveyed, applyOn, lowerOn, surveyOn};
-ghost use Rattle.propagation.specs.Posed.{Few, Counted, Bounded, Posed};
+ghost use Rattle.propagation.specs.Posed.{Counted, Bounded, Posed};
 
 // How a call ends that puts a limit to use, or asks whether any would lower a bound: the table is refused
 // (1 to 6), no limit has the number (10), there are fewer bounds than sets (8), or it says whether a limit
@@ -32,14 +31,6 @@ pub enum Propagation {
 enum Problem {
     Refused { fault: grammar::Fault, line: usize },
     Ready { limits: usize, sets: usize },
-}
-
-// How many sets a diagram has.
-fn set_count(types: usize, preds: usize, roles: usize, groups: usize) -> usize
-    requires { ⌜ Few types preds roles groups ⌝ }
-    ensures { λ r. ⌜ r ≡ types + preds + roles + groups ⌝ }
-{
-    types + preds + roles + groups
 }
 
 // ---- the limits
@@ -73,7 +64,7 @@ fn pose_in(table: &[u32], wide: &mut [u32], space: &mut [u32], limits: &mut [u32
             roles,
             groups,
         } => {
-            let sets = set_count(types, preds, roles, groups);
+            let sets = widening::set_count(types, preds, roles, groups);
             ready(&wide[..length], roles, sets, space, limits)
         }
     }
@@ -164,7 +155,7 @@ fn start_in(table: &[u32], wide: &mut [u32], sizes: &mut [u32]) -> Conversion
             roles,
             groups,
         } => {
-            let sets = set_count(types, preds, roles, groups);
+            let sets = widening::set_count(types, preds, roles, groups);
             fit(&wide[..length], groups, sets, sizes)
         }
     }

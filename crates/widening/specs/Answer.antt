@@ -1,5 +1,5 @@
 -- What accepting a table answers and writes, in document 01's numbers; and what a caller has of an accepted one.
-use Prim.Native.Nat.{ℕ}
+use Prim.Native.Nat.{ℕ, _≤_}
 use mathlib.Core.Path.{_≡_}
 use mathlib.Core.List.{List}
 use lib.ListN.{length}
@@ -37,3 +37,10 @@ pub record Accepted (t w : List ℕ) (types preds roles groups : ℕ) : Type 0 w
   pub valid : Valid w
   pub reads : diagramIn tableLine t ≡ accepted (diagramOf w)
   pub totals-are : totals (diagramOf w) ≡ record { types = types; preds = preds; roles = roles; groups = groups }
+
+-- So many types, predicates, roles and groups as a diagram can have
+pub record Few (types preds roles groups : ℕ) : Type 0 where
+  pub few-types : types ≤ 32
+  pub few-preds : preds ≤ 32
+  pub few-roles : roles ≤ 96
+  pub few-groups : groups ≤ 48

@@ -2,3 +2,4 @@
 pub mod Writes
 pub mod Tables
 pub mod Accepts
+pub mod Counts

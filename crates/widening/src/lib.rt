@@ -14,7 +14,7 @@ ghost use Rattle.orm.specs.Form.{roleFields};
 ghost use Rattle.reading.specs.WideTable.{roleWidth, mostNumbers};
 ghost use Rattle.buffer.specs.Written.{Wrote};
 ghost use Rattle.widening.specs.Widened.{roleWidened, rolesWidened, predFields, predWidened, predsFields, predsWidened, plainFields, plainWidened, tableWidened, Fits, FitsKind};
-ghost use Rattle.widening.specs.Answer.{acceptanceOf, described, widened};
+ghost use Rattle.widening.specs.Answer.{acceptanceOf, described, widened, Few};
 
 // What a role line without RMIN and RMAX has in their place.
 const RMIN: u32 = 1;
@@ -181,4 +181,12 @@ pub fn accept(table: &[u32], wide: &mut [u32]) -> Acceptance
             }
         }
     }
+}
+
+// How many sets the diagram of an accepted table has.
+pub fn set_count(types: usize, preds: usize, roles: usize, groups: usize) -> usize
+    requires { ⌜ Few types preds roles groups ⌝ }
+    ensures { λ r. ⌜ r ≡ types + preds + roles + groups ⌝ }
+{
+    types + preds + roles + groups
 }

@@ -25,7 +25,7 @@ use Rattle.bounds.specs.declared.Settlement.the-variants.{Refused, Unsat
 
 -- ---- an answer is told by its numbers
 
-told-emptied : (r : Settlement) {set n : ℕ} → settlementOf r ≡ refused 7 set n → r ≡ Unsatisfiable set n
+pub told-emptied : (r : Settlement) {set n : ℕ} → settlementOf r ≡ refused 7 set n → r ≡ Unsatisfiable set n
 told-emptied (Refused f line) h = let q : numberOf f ≡ 7 = cc in absurd (omega (arith, few-faults f))
 told-emptied (Unsatisfiable s m) h = cc
 told-emptied (TooShort m) h = let q : _≡_ {A = ℕ} 8 7 = cc in absurd (omega arith)

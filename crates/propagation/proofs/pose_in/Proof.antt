@@ -1,7 +1,8 @@
 -- `propagation::pose_in` meets its contract. A table that is refused, or a valid one.
 -- Assumes nothing.
 use Rattle.widening.specs.Laws.Accepts.{accepted-within, accepted-front}
-use Rattle.propagation.proofs.Problems.{totals-few, table-counted, posed-refused, posed-widened}
+use Rattle.widening.specs.Laws.Counts.{accepted-few}
+use Rattle.propagation.proofs.Problems.{table-counted, posed-refused, posed-widened}
 use borrow.Author.Needs.{needs}
 use Rattle.propagation.proofs.pose_in.Statement.{statement}
 use Rattle.propagation.proofs.pose_in.Tie as tie
@@ -13,7 +14,7 @@ pose-in-spec =
     (λ c κs. search needs)
     (λ c. search needs)
     (λ c. search needs)
-    (λ c κs. search (needs, totals-few))
+    (λ c κs. search (needs, accepted-few))
     (λ c. search (needs, accepted-within))
     (λ c. search (needs, accepted-front))
     (λ c κs. search (needs, table-counted))

@@ -11,6 +11,8 @@ use Rattle.reader.specs.Answer.{conversionOf}
 use Rattle.reader.specs.declared.Conversion.{Conversion}
 use Rattle.bounds.specs.Answer.{settlementOf}
 use Rattle.bounds.specs.declared.Settlement.{Settlement}
+use Rattle.prescription.specs.Answer.{prescriptionOf}
+use Rattle.prescription.specs.declared.Prescription.{Prescription}
 use Rattle.validator.specs.Outcomes.{validateOf}
 use Rattle.validator.specs.declared.ValidateAnswer.{ValidateAnswer}
 use Rattle.propagation.specs.Answer.{propagationOf}
@@ -70,6 +72,9 @@ module _ {a : List ℕ} where
 
   pub settlement-told : {r s : Settlement} → r ≡ s → a ≡ numbers (settlementOf s) → a ≡ numbers (settlementOf r)
   settlement-told q e = rw q e
+
+  pub prescription-told : {r s : Prescription} → r ≡ s → a ≡ numbers (prescriptionOf s) → a ≡ numbers (prescriptionOf r)
+  prescription-told q e = rw q e
 
   pub validate-told : {r s : ValidateAnswer} → r ≡ s → a ≡ verdictNumbers (validateOf s) → a ≡ verdictNumbers (validateOf r)
   validate-told q e = rw q e

@@ -1,10 +1,11 @@
 -- What each call tells, from the contract of the function that it calls, by demand 3.
 use Prim.Native.Nat.{ℕ}
-use mathlib.Core.Path.{_≡_}
+use mathlib.Core.Path.{_≡_, ap, _∙_}
 use mathlib.Core.List.{List}
 use lib.ListN.{length}
 use Rattle.orm.specs.Outcome.{lengthOf, bufferAfter, written, handedBack}
 use Rattle.orm.specs.Calls.{readCall, checkCall, populateCall}
+use Rattle.orm.specs.Prescribe.{prescribeCall}
 use Rattle.reader.specs.Answer.{conversionOf}
 use Rattle.reader.specs.declared.Conversion.{Conversion}
 use Rattle.bounds.specs.Answer.{settlementOf}
@@ -12,8 +13,12 @@ use Rattle.bounds.specs.declared.Settlement.{Settlement}
 use Rattle.populate.specs.Answer.{cellsOf}
 use Rattle.populate.specs.Demand3.{settledSizes}
 use Rattle.populate.specs.Tied.{demand-3}
+use Rattle.prescription.specs.Answer.{prescriptionOf}
+use Rattle.prescription.specs.declared.Prescription.{Prescription}
 use Rattle.capi.specs.Answers.{numbers, roundless}
 use Rattle.capi.specs.Told.{Told, ToldRead}
+use Rattle.capi.specs.Prescribed.{PrescribedTold}
+use Rattle.capi.specs.Prescribed.Proof.{prescribed-told}
 
 module _ {four before after : List ℕ} where
   pub told-read : {text : List ℕ} (r : Conversion) → conversionOf r ≡ lengthOf (readCall text (length before))
@@ -31,3 +36,9 @@ module _ {four before after : List ℕ} where
         → after ≡ bufferAfter (written (populateCall t (length before))) before → four ≡ numbers (settlementOf r) → Told t cellsOf four before after
     told-populate e w n =
         record { answer = r; numbered = n; means = demand-3 .of-table t .populate before after r (record { handed = e; buffer = w }) }
+
+  -- by S-1
+  pub told-prescribe : {t : List ℕ} {number wanted : ℕ} (r : Prescription) → prescriptionOf r ≡ handedBack (prescribeCall t number wanted (length before))
+      → after ≡ bufferAfter (written (prescribeCall t number wanted (length before))) before → four ≡ numbers (prescriptionOf r)
+      → PrescribedTold t number wanted four before after
+  told-prescribe {t} {number} {wanted} r e w n = prescribed-told t number wanted (record { answer = n ∙ ap numbers e; array = w })

@@ -5,6 +5,7 @@ use mathlib.Core.List.{List, [], _∷_, _++_}
 use lib.ListN.{length, drop}
 use Rattle.orm.specs.Outcome.{Outcome, Sized, bufferAfter, lengthOf, written, handedBack}
 use Rattle.orm.specs.Calls.{validateCall}
+use Rattle.orm.specs.Prescribe.{prescribeCall}
 use Rattle.orm.specs.SingleLimits.{startCall, lowerCall, surveyCall, boundsOf, foundOf}
 use Rattle.capi.specs.Answers.{numbers, roundless, foundNumbers, verdictNumbers}
 pub mod Laws
@@ -17,6 +18,10 @@ pub record Converted (o : Outcome (List ℕ)) (four before after : List ℕ) : T
 pub record Settled (o : Outcome Sized) (four before after : List ℕ) : Type 0 where
   pub answer : four ≡ numbers (handedBack o)
   pub array : after ≡ bufferAfter (written o) before
+
+-- Populating with one set kept to a size
+abbrev pub HasPrescribed : List ℕ → ℕ → ℕ → List ℕ → List ℕ → List ℕ → Type 0
+HasPrescribed t number wanted four before after = Settled (prescribeCall t number wanted (length before)) four before after
 
 -- Validating
 abbrev pub HasValidated : List ℕ → List ℕ → List ℕ → Type 0

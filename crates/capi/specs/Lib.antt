@@ -7,3 +7,4 @@ pub mod Subtypes
 pub mod SubtypeRanges
 pub mod RoleLimits
 pub mod Sequences
+pub mod Prescribed

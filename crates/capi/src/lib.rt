@@ -7,6 +7,7 @@ ghost use mathlib.Core.List.{[], _∷_};
 ghost use lib.ListN.{length};
 ghost use Rattle.orm.specs.Outcome.{lengthOf, bufferAfter, written, handedBack};
 ghost use Rattle.orm.specs.Calls.{readCall, checkCall, populateCall, validateCall, writeCall};
+ghost use Rattle.orm.specs.Prescribe.{prescribeCall};
 ghost use Rattle.orm.specs.SingleLimits.{startCall, lowerCall, surveyCall, boundsOf, foundOf};
 ghost use Rattle.counting.specs.Totals.{bit};
 ghost use Rattle.grammar.specs.Fault.{numberOf};
@@ -14,10 +15,12 @@ ghost use Rattle.reader.specs.Answer.{conversionOf};
 ghost use Rattle.bounds.specs.Answer.{settlementOf};
 ghost use Rattle.populate.specs.Answer.{cellsOf};
 ghost use Rattle.populate.specs.Demand3.{settledSizes};
+ghost use Rattle.prescription.specs.Answer.{prescriptionOf};
 ghost use Rattle.validator.specs.Outcomes.{validateOf};
 ghost use Rattle.propagation.specs.Answer.{propagationOf};
 ghost use Rattle.capi.specs.Answers.{numbers, roundless, foundNumbers, verdictNumbers};
 ghost use Rattle.capi.specs.Told.{Told, ToldRead};
+ghost use Rattle.capi.specs.Prescribed.{PrescribedTold};
 
 fn of_size(x: usize) -> u64
     ensures { λ r. ⌜ r ≡ x ⌝ }
@@ -92,6 +95,25 @@ fn store_propagation(answer: &mut [u64; 4], outcome: propagation::Propagation)
         propagation::Propagation::TooShort { needed } => store(answer, 8, of_size(needed), 0, 0),
         propagation::Propagation::Accepted { lowers, count } => {
             store(answer, 0, 0, of_bool(lowers), of_size(count))
+        }
+    }
+}
+
+// For populating with one set kept to a size.
+fn store_prescription(answer: &mut [u64; 4], outcome: prescription::Prescription)
+    ensures { λ _. ⌜ now (answer .exit) ≡ numbers (prescriptionOf outcome) ⌝ }
+{
+    match outcome {
+        prescription::Prescription::Refused { fault, line } => {
+            store(answer, number_of(fault), of_size(line), 0, 0)
+        }
+        prescription::Prescription::NoSet { number } => store(answer, 10, of_u32(number), 0, 0),
+        prescription::Prescription::Impossible { set, round } => {
+            store(answer, 11, of_size(set), of_u32(round), 0)
+        }
+        prescription::Prescription::TooShort { needed } => store(answer, 8, of_size(needed), 0, 0),
+        prescription::Prescription::Accepted { length, rounds } => {
+            store(answer, 0, 0, of_u32(rounds), of_size(length))
         }
     }
 }
@@ -195,4 +217,21 @@ pub extern "C" fn legshorgan_survey(table: &[u32], sizes: &[u32], answer: &mut [
 {
     let outcome = propagation::survey(table, sizes);
     store_propagation(answer, outcome);
+}
+
+// The cells of a population in which the set with this number has just the wanted size.
+#[no_mangle]
+pub extern "C" fn legshorgan_prescribe(
+    table: &[u32],
+    set: u32,
+    wanted: u32,
+    cells: &mut [u32],
+    answer: &mut [u64; 4],
+)
+    ensures { λ _. ⌜ now (answer .exit) ≡ numbers (handedBack (prescribeCall (now (table .entry)) set wanted (length (now (cells .entry))))) ⌝ }
+    ensures { λ _. ⌜ now (cells .exit) ≡ bufferAfter (written (prescribeCall (now (table .entry)) set wanted (length (now (cells .entry))))) (now (cells .entry)) ⌝ }
+    ensures { λ _. ⌜ PrescribedTold (now (table .entry)) set wanted (now (answer .exit)) (now (cells .entry)) (now (cells .exit)) ⌝ }
+{
+    let outcome = prescription::prescribe(table, set, wanted, cells);
+    store_prescription(answer, outcome);
 }

@@ -1,9 +1,10 @@
 -- How the calls end: reading by its diagram; those that run the rounds by the verdict.
 use Prim.Native.Nat.{ℕ, suc, _≤_}
 use mathlib.Core.Path.{_≡_, refl, sym, ap, _∙_}
-use mathlib.Core.Logic.{_↔_}
+use mathlib.Core.Logic.{_↔_, _⊎_, inl, inr}
 use mathlib.Core.Bool.{Bool, true, false}
 use mathlib.Core.List.{List}
+use native.Mathlib.Decide.{ℕ-discrete}
 use native.Mathlib.Omega.{arith}
 use lib.Dec.{ltb}
 use lib.ListN.{length}
@@ -98,3 +99,20 @@ module _ {d : Diagram} {low high : List ℕ} (form : WellFormed d) (i : Inside d
     where
       writes : (space : ℕ) → length (make c) ≤ space → call space ≡ accepted (record { rounds = n; result = make c })
       writes space h = ends space ∙ settled-fixpoint number make space v ∙ ap (_>>= sized n) (fits space (make c) h)
+
+-- It is refused so, or there is one
+module _ {number : ℕ} {d : Diagram} {low high : List ℕ} {None : Type 0} {call : ℕ → Outcome Sized} (r : RefusesBy number d low high None call)
+    (space : ℕ) where
+  pub refused-or-some : ((place : ℕ) × (round : ℕ) × (call space ≡ refused number place round)) ⊎ (¬ None)
+  refused-or-some = go (call space) refl
+    where
+      some : ((place round : ℕ) → ¬ (call space ≡ refused number place round)) → ((place : ℕ) × (round : ℕ) × (call space ≡ refused number place round)) ⊎ (¬ None)
+      some n = inr (λ none. let (place, round, q) = r .exactly-when space .1 none in n place round q)
+
+      go : (o : Outcome Sized) → call space ≡ o → ((place : ℕ) × (round : ℕ) × (call space ≡ refused number place round)) ⊎ (¬ None)
+      go (accepted s) e = some λ place round q. let z : _≡_ {A = ℕ} 0 1 = cc in omega arith
+      go (refused c place round) e = by-number (ℕ-discrete c number)
+        where
+          by-number : Dec (c ≡ number) → ((place : ℕ) × (round : ℕ) × (call space ≡ refused number place round)) ⊎ (¬ None)
+          by-number (yes h) = inl (place, round, e ∙ ap (λ (n : ℕ). refused n place round) h)
+          by-number (no h) = some λ p k q. h (cc)

@@ -3,16 +3,15 @@ use Prim.Native.Nat.{ℕ, _≤_, _<_}
 use native.Mathlib.Decide.{decLe}
 use native.Mathlib.Omega.{arith}
 use mathlib.Core.Path.{_≡_, refl, sym, ap, _∙_}
-use mathlib.Core.Bool.{Bool, true, false}
+use mathlib.Core.Logic.{⊎-elim}
 use mathlib.Core.List.{List, _++_}
-use borrow.Author.Tests.{eqb-true, eqb-false}
-use lib.Dec.{eqb}
 use lib.ListN.{length, drop}
 use Rattle.orm.specs.Diagram.{Diagram, table}
 use Rattle.orm.specs.Text.{textLine, tableLine}
 use Rattle.orm.specs.Outcome.{Outcome, refused, accepted, lengthOf, bufferAfter, Sized, written, Handed, handedBack}
 use Rattle.orm.specs.Calls.{diagramIn, readCall, checkCall, populateCall}
 use Rattle.guarantee.specs.Settling.{Writes}
+use Rattle.guarantee.specs.Ends.{refused-or-some}
 use Rattle.guarantee.specs.Guarantee.{NoPopulation, EmptiedAt, RefusesEmptied, Populated, TableGuarantee, FaultOfForm}
 use Rattle.guarantee.specs.Proof.{guarantee}
 use Rattle.grammar.specs.Fault.{numberOf}
@@ -53,22 +52,12 @@ module _ (t : List ℕ) (make : Making) (call : ℕ → Outcome Sized) (before :
             by-length (no h) = lacks x p (made p .too-short (length before) (omega arith)) (omega arith)
 
     of-diagram : Ending t make (call (length before)) before
-    of-diagram = go (call (length before)) refl
-      where
-        other : (o : Outcome Sized) → call (length before) ≡ o → ((place round : ℕ) → ¬ (o ≡ refused 7 place round))
-            → Ending t make (call (length before)) before
-        other o e n = some λ none. let (place, round, q) = refuses .exactly-when (length before) .1 none in n place round (sym e ∙ q)
-
-        go : (o : Outcome Sized) → call (length before) ≡ o → Ending t make (call (length before)) before
-        go (accepted s) e = other (accepted s) e λ place round q. let z : _≡_ {A = ℕ} 0 1 = cc in omega arith
-        go (refused c place round) e = by-number (eqb c 7) refl
-          where
-            by-number : (b : Bool) → eqb c 7 ≡ b → Ending t make (call (length before)) before
-            by-number true h =
-                let q : call (length before) ≡ refused 7 place round = e ∙ ap (λ (n : ℕ). refused n place round) (eqb-true c 7 h) in
-                emptied x place round q (refuses .exactly-when (length before) .0 (place, round, q))
-                (refuses .set-and-round (length before) place round q)
-            by-number false h = other (refused c place round) e λ p r q. eqb-false c 7 h (cc)
+    of-diagram =
+        ⊎-elim
+        (λ (place, round, q).
+        emptied x place round q (refuses .exactly-when (length before) .0 (place, round, q)) (refuses .set-and-round (length before) place round q))
+        some
+        (refused-or-some refuses (length before))
 
   -- of any other table
   of-none : (TableOf t → ⊥) → FaultOfForm call → Ending t make (call (length before)) before

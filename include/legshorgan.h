@@ -42,6 +42,19 @@ void legshorgan_check(const uint32_t *table, size_t table_length, uint32_t *size
  * at most LEGSHORGAN_MOST_CELLS numbers. Refuses like legshorgan_check. */
 void legshorgan_populate(const uint32_t *table, size_t table_length, uint32_t *cells, size_t cells_length, uint64_t answer[4]);
 
+/* A population in which one set has just so many: writes the cells of a population of a table's diagram, as legshorgan_populate does,
+ * in which the set with this number (from 1: types, predicates, roles, groups, in file order) has exactly `wanted` members and every
+ * other set as many as it then can have. Refuses with 1 to 6; 10 where no set has the number; 11 where no population of the diagram
+ * has that many in that set; then 8.
+ *   answer[0]  0: accepted; else the number of the refusal, 1 to 6, 10, 11 or 8
+ *   answer[1]  its place: the line from 1 (1 to 6), the number that no set has (10), the emptied set from 1 (11), the length needed (8);
+ *              0 if accepted
+ *   answer[2]  the rounds made if accepted; the round of a refusal 11; else 0
+ *   answer[3]  the length of the result if accepted, else 0
+ */
+void legshorgan_prescribe(const uint32_t *table, size_t table_length, uint32_t set, uint32_t wanted, uint32_t *cells,
+                          size_t cells_length, uint64_t answer[4]);
+
 /* Writes the text of a table's diagram, at most LEGSHORGAN_MOST_TEXT bytes. Refuses with 1 to 6, then 8. */
 void legshorgan_write(const uint32_t *table, size_t table_length, uint8_t *text, size_t text_length, uint64_t answer[4]);
 

@@ -1,11 +1,13 @@
 #!/usr/bin/env python3
-"""Makes data/ and stdout of the crates vectors_texts, vectors_tables, vectors_cells and vectors_sequences.
+"""Makes data/ and stdout of the crates vectors_texts, vectors_tables, vectors_cells, vectors_sequences and vectors_prescribed.
 
-    python3 tests/vectors.py VECTORS SEQUENCES CRATES
+    python3 tests/vectors.py VECTORS SEQUENCES PRESCRIBED CRATES
 
 VECTORS is the folder of cases with outcomes by other hands: texts.jsonl, tables.txt, cells.txt and slow.txt, with its
-outcome in README.md. SEQUENCES is the file of those for limits in any sequence, s13.txt. CRATES is the folder of the crates. Each data file starts with the number of cases; crates/cases says
-how a case is written. What is expected comes from VECTORS alone: no program of this repository is run.
+outcome in README.md. SEQUENCES is the file of those for limits in any sequence, s13.txt, PRESCRIBED that of those for a
+set with just so many, s1.txt. CRATES is the folder of the crates. Each data file starts with the number of cases;
+crates/cases says how a case is written. What is expected comes from these files alone: no program of this repository is
+run.
 """
 
 import json
@@ -77,14 +79,26 @@ def cells(vectors):
     return data, [outcome(x, "broken", "refused") + "\n" for x in found]
 
 
-def sequences(path):
+def asked(path):
+    """Each line's input, by key, and its answer with `;` behind each part."""
     found = [x.split(" -> ") for x in lines(path)]
-    return [numbers(values(table)["table"]) for table, _ in found], [answer.replace(" ", ";") + ";\n" for _, answer in found]
+    return [values(given) for given, _ in found], [answer.replace(" ", ";") + ";\n" for _, answer in found]
+
+
+def sequences(path):
+    given, answers = asked(path)
+    return [numbers(x["table"]) for x in given], answers
+
+
+def prescribed(path):
+    given, answers = asked(path)
+    return [numbers(x["table"]) + numbers(f"{x['set']},{x['wanted']},{x['space']}") for x in given], answers
 
 
 def main():
-    vectors, file, crates = map(pathlib.Path, sys.argv[1:])
-    made = {"texts": texts(vectors), "tables": tables(vectors), "cells": cells(vectors), "sequences": sequences(file)}
+    vectors, limits, sizes, crates = map(pathlib.Path, sys.argv[1:])
+    made = {"texts": texts(vectors), "tables": tables(vectors), "cells": cells(vectors)}
+    made |= {"sequences": sequences(limits), "prescribed": prescribed(sizes)}
     for name, (data, expected) in made.items():
         crate = crates / f"vectors_{name}"
         (crate / "data").mkdir(parents=True, exist_ok=True)

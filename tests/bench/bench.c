@@ -24,6 +24,7 @@ void reference_write(const uint32_t *, size_t, uint8_t *, size_t, uint64_t[4]);
 void reference_validate(const uint32_t *, size_t, const uint32_t *, size_t, uint64_t[4]);
 void reference_lower(const uint32_t *, size_t, uint32_t, uint32_t *, size_t, uint64_t[4]);
 void reference_survey(const uint32_t *, size_t, const uint32_t *, size_t, uint64_t[4]);
+void reference_prescribe(const uint32_t *, size_t, uint32_t, uint32_t, uint32_t *, size_t, uint64_t[4]);
 
 struct version {
     const char *name;
@@ -34,22 +35,23 @@ struct version {
     void (*validate)(const uint32_t *, size_t, const uint32_t *, size_t, uint64_t[4]);
     void (*lower)(const uint32_t *, size_t, uint32_t, uint32_t *, size_t, uint64_t[4]);
     void (*survey)(const uint32_t *, size_t, const uint32_t *, size_t, uint64_t[4]);
+    void (*prescribe)(const uint32_t *, size_t, uint32_t, uint32_t, uint32_t *, size_t, uint64_t[4]);
 };
 
 enum { LIBRARY, BASELINE, REFERENCE, VERSIONS };
 
 static const struct version versions[VERSIONS] = {
     {"library", legshorgan_read, legshorgan_check, legshorgan_populate, legshorgan_write, legshorgan_validate,
-     legshorgan_lower, legshorgan_survey},
+     legshorgan_lower, legshorgan_survey, legshorgan_prescribe},
     {"c", baseline_read, baseline_check, baseline_populate, baseline_write, baseline_validate,
-     baseline_lower, baseline_survey},
+     baseline_lower, baseline_survey, baseline_prescribe},
     {"rust", reference_read, reference_check, reference_populate, reference_write, reference_validate,
-     reference_lower, reference_survey},
+     reference_lower, reference_survey, reference_prescribe},
 };
 
-enum call { READ, CHECK, POPULATE, WRITE, VALIDATE, LOWER, SURVEY };
+enum call { READ, CHECK, POPULATE, WRITE, VALIDATE, LOWER, SURVEY, PRESCRIBE };
 
-static const char *const call_names[] = {"read", "check", "populate", "write", "validate", "lower", "survey"};
+static const char *const call_names[] = {"read", "check", "populate", "write", "validate", "lower", "survey", "prescribe"};
 
 /* What is counted of a row. */
 enum unit { BYTES, ROUNDS, CELLS, SETS, LIMITS };
@@ -71,6 +73,7 @@ static const struct row rows[] = {
     {"limited", READ, BYTES},  {"limited", CHECK, ROUNDS}, {"limited", POPULATE, CELLS}, {"limited", VALIDATE, CELLS},
     {"limited", WRITE, BYTES},
     {"sample", LOWER, SETS},   {"sample", SURVEY, LIMITS}, {"full", LOWER, SETS},       {"full", SURVEY, LIMITS},
+    {"sample", PRESCRIBE, CELLS}, {"full", PRESCRIBE, CELLS}, {"slow", PRESCRIBE, ROUNDS},
 };
 
 enum { ROW_COUNT = sizeof rows / sizeof *rows };
@@ -79,6 +82,7 @@ static uint8_t text[8192];
 static size_t text_length, table_length, cells_length;
 static uint32_t table[LEGSHORGAN_MOST_TABLE], cells[LEGSHORGAN_MOST_CELLS];
 static uint32_t bounds[LEGSHORGAN_MOST_SIZES], last_limit;
+static uint32_t wanted_set, wanted;
 
 /* The result of a call of each version. */
 static struct result {
@@ -131,8 +135,18 @@ static void load_bounds(void) {
     last_limit = (uint32_t)answer[3] - 1;
 }
 
+/* The first predicate and half of the size that it settles at; where a set is emptied, that set and 1. */
+static void load_wanted(void) {
+    uint64_t answer[4];
+    uint32_t sizes[LEGSHORGAN_MOST_SIZES];
+    baseline_check(table, table_length, sizes, LEGSHORGAN_MOST_SIZES, answer);
+    wanted_set = answer[0] == 0 ? table[1] + 1 : (uint32_t)answer[1];
+    wanted = answer[0] == 0 ? sizes[wanted_set - 1] / 2 : 1;
+}
+
 static void load_row(const char *folder, const struct row *row) {
     load(folder, row->diagram);
+    if (row->call == PRESCRIBE) load_wanted();
     if (row->call == VALIDATE) load_cells();
     if (is_single(row->call)) load_bounds();
 }
@@ -152,6 +166,7 @@ static void make_call(const struct version *v, enum call call, struct result *r)
     case VALIDATE: v->validate(table, table_length, cells, cells_length, r->answer); break;
     case LOWER: v->lower(table, table_length, last_limit, r->sizes, LEGSHORGAN_MOST_SIZES, r->answer); break;
     case SURVEY: v->survey(table, table_length, r->sizes, LEGSHORGAN_MOST_SIZES, r->answer); break;
+    case PRESCRIBE: v->prescribe(table, table_length, wanted_set, wanted, r->cells, LEGSHORGAN_MOST_CELLS, r->answer); break;
     }
 }
 
@@ -161,7 +176,8 @@ static const void *written_by(enum call call, const struct result *r, size_t *by
     case CHECK:
     case LOWER:
     case SURVEY: *bytes = sizeof r->sizes; return r->sizes;
-    case POPULATE: *bytes = sizeof r->cells; return r->cells;
+    case POPULATE:
+    case PRESCRIBE: *bytes = sizeof r->cells; return r->cells;
     case WRITE: *bytes = sizeof r->text; return r->text;
     default: *bytes = 0; return r->answer;
     }

@@ -1,6 +1,6 @@
 //! Validating a population: the constraints K1 to K11.
 
-use crate::diagram::{form, Diagram};
+use crate::diagram::{form, Diagram, Predicate};
 use crate::Refusal;
 
 /// "the lowest broken K with the lowest number that breaks it"; 0, 0 where none
@@ -77,6 +77,29 @@ fn occurrences<T: Ord>(mut items: Vec<T>) -> Vec<usize> {
     items.chunk_by(|a, b| a == b).map(<[T]>::len).collect()
 }
 
+/// What a row holds in the columns of a group of its predicate, 0 elsewhere.
+fn combination(pred: &Predicate, group: u32, row: &[u32]) -> [u32; 6] {
+    let in_group = |c: usize| pred.roles.get(c).is_some_and(|role| role.group == group);
+    std::array::from_fn(|c| if in_group(c) { row[c] } else { 0 })
+}
+
+/// The sizes of all sets of a population, in set order: "A type or predicate has
+/// the size its size cell says; a role's members are the different values in its
+/// column, a group's the different combinations in its columns." Refusal 9.
+pub fn found(d: &Diagram, cells: &[u32]) -> Result<Vec<usize>, Refusal> {
+    let population = cut(d, cells)?;
+    let mut sizes: Vec<usize> = population.values.iter().map(Vec::len).collect();
+    sizes.extend(population.rows.iter().map(Vec::len));
+    sizes.extend(population.members.iter().flatten().map(Vec::len));
+    for (pred, rows) in d.preds.iter().zip(&population.rows) {
+        for (g, _) in (1..).zip(&pred.groups) {
+            let all = rows.iter().map(|row| combination(pred, g, row));
+            sizes.push(occurrences(all.collect()).len());
+        }
+    }
+    Ok(sizes)
+}
+
 /// Whether the type of this index breaks constraint K1 to K4 or K10.
 fn type_breaks(d: &Diagram, population: &Population, constraint: u32, a: usize) -> bool {
     let t = &d.types[a];
@@ -128,11 +151,8 @@ fn pred_breaks(d: &Diagram, population: &Population, constraint: u32, r: usize) 
         }),
         // "K9 each occurring group combination occurs FMIN..FMAX times"
         9 => (1..).zip(&pred.groups).any(|(g, group)| {
-            let combination = |row: &&[u32]| -> [u32; 6] {
-                let in_group = |c: usize| pred.roles.get(c).is_some_and(|role| role.group == g);
-                std::array::from_fn(|c| if in_group(c) { row[c] } else { 0 })
-            };
-            let counts = occurrences(rows.iter().map(combination).collect());
+            let all = rows.iter().map(|row| combination(pred, g, row));
+            let counts = occurrences(all.collect());
             let range = group.fmin as usize..=group.fmax as usize;
             counts.iter().any(|n| !range.contains(n))
         }),

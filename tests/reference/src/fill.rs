@@ -1,7 +1,7 @@
 //! Filling a population.
 
 use crate::diagram::{form, Diagram, Predicate};
-use crate::sizes::settle;
+use crate::sizes::{floors, settle, settle_from, starting};
 use crate::{room, Refusal, Settled};
 
 /// A member of a set: the values of its columns at their role's place, 0 in
@@ -76,7 +76,47 @@ fn length(d: &Diagram, sizes: &[u32]) -> usize {
 pub fn populate(table: &[u32], cells: &mut [u32]) -> Result<Settled, Refusal> {
     let d = form(table)?;
     let (rounds, sizes) = settle(&d)?;
-    let length = length(&d, &sizes);
+    let length = fill(&d, &sizes, cells)?;
+    Ok(Settled { rounds, length })
+}
+
+/// "Given a set number and a wanted size, produce a population .. in which that
+/// set has just that size, the others as large as they can then be, or say that
+/// none exists" (document 02, S-1). Refusals 1 to 6; 10 "set number 0 or past
+/// the last, after 6, its place that number"; 11 "in place of 7 and with the set
+/// and round that 7 would carry"; then 8.
+pub fn prescribe(
+    table: &[u32],
+    set: u32,
+    wanted: u32,
+    cells: &mut [u32],
+) -> Result<Settled, Refusal> {
+    let d = form(table)?;
+    if set == 0 || set as usize > d.count_sets() {
+        return Err(Refusal::at(10, u64::from(set)));
+    }
+    let (rounds, sizes) = settle_with(&d, set as usize - 1, wanted)?;
+    let length = fill(&d, &sizes, cells)?;
+    Ok(Settled { rounds, length })
+}
+
+/// "Before the rounds the set's floor becomes the larger of itself and the
+/// wanted size, and its starting ceiling the smaller" (document 02, S-1). Rounds
+/// and sizes with the set of this index so.
+fn settle_with(d: &Diagram, set: usize, wanted: u32) -> Result<(u64, Vec<u32>), Refusal> {
+    let (mut floors, mut ceilings) = (floors(d), starting(d));
+    floors[set] = floors[set].max(wanted);
+    ceilings[set] = ceilings[set].min(wanted);
+    let impossible = |emptied: Refusal| Refusal {
+        number: 11,
+        ..emptied
+    };
+    settle_from(d, &floors, ceilings).map_err(impossible)
+}
+
+/// The population with these settled sizes, or 8; its length.
+fn fill(d: &Diagram, sizes: &[u32], cells: &mut [u32]) -> Result<usize, Refusal> {
+    let length = length(d, sizes);
     room(length, cells)?;
     let (a, rest) = sizes.split_at(d.types.len());
     let (r, rest) = rest.split_at(d.preds.len());
@@ -89,7 +129,7 @@ pub fn populate(table: &[u32], cells: &mut [u32]) -> Result<Settled, Refusal> {
     // "Type: the first a values from the FIRST of its root."
     for (kind, size) in a.iter().enumerate() {
         put(*size);
-        (0..*size).for_each(|i| put(first(&d, kind) + i));
+        (0..*size).for_each(|i| put(first(d, kind) + i));
     }
     // "Roles of one type, in file order, take its members onward from where
     // the previous role stopped, around to the first again."
@@ -101,7 +141,7 @@ pub fn populate(table: &[u32], cells: &mut [u32]) -> Result<Settled, Refusal> {
             let mut members = Vec::new();
             for _ in 0..p[0] {
                 let mut row = [0; 6];
-                row[column] = first(&d, kind) + stopped[kind];
+                row[column] = first(d, kind) + stopped[kind];
                 members.push(row);
                 stopped[kind] = (stopped[kind] + 1) % a[kind];
             }
@@ -116,5 +156,5 @@ pub fn populate(table: &[u32], cells: &mut [u32]) -> Result<Settled, Refusal> {
             row[..pred.roles.len()].iter().for_each(|value| put(*value));
         }
     }
-    Ok(Settled { rounds, length })
+    Ok(length)
 }

@@ -65,6 +65,15 @@ extern "C" {
         sizes_length: usize,
         answer: *mut u64,
     );
+    fn legshorgan_prescribe(
+        table: *const u32,
+        table_length: usize,
+        set: u32,
+        wanted: u32,
+        cells: *mut u32,
+        cells_length: usize,
+        answer: *mut u64,
+    );
 }
 
 /// A wrapper around one call with an input and lent space.
@@ -95,7 +104,7 @@ call!(validate, legshorgan_validate, u32, &[u32], as_ptr);
 call!(start, legshorgan_start, u32, &mut [u32], as_mut_ptr);
 call!(survey, legshorgan_survey, u32, &[u32], as_ptr);
 
-/// The one call that takes a number beside its input.
+/// Takes the number of a limit beside its input.
 pub fn lower(table: &[u32], number: u32, sizes: &mut [u32]) -> Answer {
     let mut answer = [UNANSWERED; 4];
     // SAFETY: every pointer is given with the length of its slice.
@@ -106,6 +115,24 @@ pub fn lower(table: &[u32], number: u32, sizes: &mut [u32]) -> Answer {
             number,
             sizes.as_mut_ptr(),
             sizes.len(),
+            answer.as_mut_ptr(),
+        );
+    }
+    answer
+}
+
+/// Takes the number of a set and a wanted size beside its input.
+pub fn prescribe(table: &[u32], set: u32, wanted: u32, cells: &mut [u32]) -> Answer {
+    let mut answer = [UNANSWERED; 4];
+    // SAFETY: every pointer is given with the length of its slice.
+    unsafe {
+        legshorgan_prescribe(
+            table.as_ptr(),
+            table.len(),
+            set,
+            wanted,
+            cells.as_mut_ptr(),
+            cells.len(),
             answer.as_mut_ptr(),
         );
     }

@@ -1,5 +1,5 @@
-//! A second solution of document 01, amended by S-2, S-5, S-8 and S-13 of
-//! document 02, written from the documents alone, to compare others with.
+//! A second solution of document 01, amended by S-1, S-2, S-5, S-8 and S-13
+//! of document 02, written from the documents alone, to compare others with.
 //! Quoted words in comments are from document 01 where no other is named.
 
 mod constraints;
@@ -15,15 +15,16 @@ pub mod random;
 #[cfg(feature = "compare")]
 pub mod foreign;
 
-pub use constraints::{validate, Verdict};
+pub use constraints::{found, validate, Verdict};
 pub use diagram::{form, role_width, Diagram, Group, Predicate, Role, Type};
-pub use fill::populate;
+pub use fill::{populate, prescribe};
 pub use limits::{limits, lower, start, survey, Limit, Lowered, Survey, Value};
 pub use program::program;
 pub use sizes::{check, floors, round, settle, starting};
 pub use text::{read, write};
 
-/// "A refusal carries its number, a place and a round (0 but for 7)".
+/// "A refusal carries its number, a place and a round (0 but for 7)", and but
+/// for 11, which stands "in place of 7" (document 02, S-1).
 #[derive(Clone, Copy, Debug, PartialEq, Eq)]
 pub struct Refusal {
     pub number: u32,
@@ -32,7 +33,7 @@ pub struct Refusal {
 }
 
 impl Refusal {
-    /// A refusal of any number but 7: the round is 0.
+    /// A refusal of any number but 7 and 11: the round is 0.
     fn at(number: u32, place: u64) -> Refusal {
         Refusal {
             number,

@@ -1,7 +1,8 @@
 //! Seeded random inputs: diagrams, damaged texts, tables and cells, ceilings
-//! and numbers of limits, and lengths of lent space.
+//! and numbers of limits, numbers of sets and wanted sizes, and lengths of lent
+//! space.
 
-use crate::{limits, role_width, round, settle, starting};
+use crate::{floors, limits, role_width, round, settle, starting};
 use crate::{Diagram, Group, Limit, Predicate, Role, Type, Value};
 
 /// A splitmix generator: the same seed gives the same inputs.
@@ -1394,6 +1395,81 @@ pub fn limit_number(random: &mut Random, count: usize) -> u32 {
         17 => count + random.between(0, 9),
         18 => other_number(random, count),
         _ => u32::MAX,
+    }
+}
+
+/// The predicates in which some combinations occur more than once, as sets from 1:
+/// not every number of rows can be had of them.
+fn repeating(d: &Diagram) -> Vec<u32> {
+    let repeats = |(_, pred): &(u32, &Predicate)| pred.groups.iter().any(|group| group.fmin > 1);
+    let numbered = (d.types.len() as u32 + 1..).zip(&d.preds);
+    numbered.filter(repeats).map(|(set, _)| set).collect()
+}
+
+/// The number of a set, from 1: often of a kind chosen before, or of any; the
+/// first, the last; or no set's number: 0, just past the last, past it by one bit
+/// alone, and any number.
+pub fn set_number(random: &mut Random, d: &Diagram) -> u32 {
+    let repeating = repeating(d);
+    let counts = [
+        d.types.len(),
+        d.preds.len(),
+        d.count_roles(),
+        d.count_groups(),
+    ];
+    let all = d.count_sets() as u32;
+    match random.below(40) {
+        kind @ 0..20 if counts[kind % 4] > 0 => {
+            let before: usize = counts[..kind % 4].iter().sum();
+            (before + 1 + random.below(counts[kind % 4])) as u32
+        }
+        20..28 if !repeating.is_empty() => random.pick(&repeating),
+        0..34 => random.between(1, all),
+        34..36 => random.pick(&[1, all]),
+        36 => all + 1,
+        37 => 0,
+        38 => random.between(1, all) | 1 << random.between(8, 31),
+        _ => other_number(random, all),
+    }
+}
+
+/// A diagram that mostly has a population: of up to three the first that
+/// settles, else the last.
+pub fn settling_diagram(random: &mut Random) -> Diagram {
+    for _ in 0..random.pick(&[0, 1, 2, 2, 2]) {
+        let d = diagram(random);
+        if settle(&d).is_ok() {
+            return d;
+        }
+    }
+    diagram(random)
+}
+
+/// A size wanted of the set of this index: about that which it settles at, half
+/// of it, any that it may have, about its floor and its starting ceiling, past
+/// all of these by one bit alone, 0, and any number.
+pub fn wanted(random: &mut Random, d: &Diagram, set: usize) -> u32 {
+    let (floor, ceiling) = (floors(d)[set], starting(d)[set]);
+    let size = settle(d).map_or(floor, |(_, sizes)| sizes[set]);
+    match random.below(40) {
+        0..6 => size,
+        6..9 => size + 1,
+        9..12 => size - 1,
+        12..15 => (size / 2).max(1),
+        15..24 => random.between(floor.min(size), size),
+        24..27 => size + random.between(1, 9),
+        27 => size + random.pick(&[1 << 16, 1 << 24, 1 << 31]),
+        28 => floor,
+        29 => floor - 1,
+        30 => floor + 1,
+        31 => ceiling,
+        32 => ceiling + 1,
+        33 => ceiling - 1,
+        34 => 0,
+        35 => random.pick(&[4095, 4096, 4097]),
+        36 => u32::MAX,
+        37 => other_number(random, size),
+        _ => random.between(1, 12),
     }
 }
 

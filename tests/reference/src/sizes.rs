@@ -107,22 +107,31 @@ fn emptied(floors: &[u32], ceilings: &[u32], round: u64) -> Result<(), Refusal> 
 }
 
 /// "Else the first round that lowers nothing ends it, counts as a round, and
-/// the ceilings are the sizes, called settled." Rounds and sizes.
-pub fn settle(d: &Diagram) -> Result<(u64, Vec<u32>), Refusal> {
-    let floors = floors(d);
-    let mut old = starting(d);
+/// the ceilings are the sizes, called settled." Rounds and sizes, from these
+/// floors and starting ceilings.
+pub fn settle_from(
+    d: &Diagram,
+    floors: &[u32],
+    starting: Vec<u32>,
+) -> Result<(u64, Vec<u32>), Refusal> {
+    let mut old = starting;
     let mut new = old.clone();
     let mut rounds = 0;
-    emptied(&floors, &old, rounds)?;
+    emptied(floors, &old, rounds)?;
     loop {
         round(d, &old, &mut new);
         rounds += 1;
-        emptied(&floors, &new, rounds)?;
+        emptied(floors, &new, rounds)?;
         if new == old {
             return Ok((rounds, new));
         }
         std::mem::swap(&mut old, &mut new);
     }
+}
+
+/// The rounds and sizes of a diagram.
+pub fn settle(d: &Diagram) -> Result<(u64, Vec<u32>), Refusal> {
+    settle_from(d, &floors(d), starting(d))
 }
 
 /// "the check the sizes in set order"; "Then 7 (check and fill only), then 8".

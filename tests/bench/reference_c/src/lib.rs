@@ -156,3 +156,22 @@ pub unsafe extern "C" fn reference_survey(
     let said = reference::survey(table, sizes);
     *answer = said.map_or_else(refused, |s| [0, 0, u64::from(s.lowers), s.limits as u64]);
 }
+
+/// # Safety
+/// The pointers are as include/legshorgan.h says.
+#[no_mangle]
+pub unsafe extern "C" fn reference_prescribe(
+    table: *const u32,
+    table_length: usize,
+    set: u32,
+    wanted: u32,
+    cells: *mut u32,
+    cells_length: usize,
+    answer: *mut [u64; 4],
+) {
+    let (table, cells) = (
+        from_raw_parts(table, table_length),
+        from_raw_parts_mut(cells, cells_length),
+    );
+    *answer = settled(reference::prescribe(table, set, wanted, cells));
+}

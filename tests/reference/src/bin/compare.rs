@@ -13,13 +13,14 @@
 //!
 //! An input is one call with its lent space, or a sequence of single limits from
 //! the start to the end. The answers and every lent number or byte afterwards
-//! must agree. Input i depends on the seed and i alone. Each fourth input is of
-//! the calls for single limits.
+//! must agree. Input i depends on the seed and i alone. Each fifth input is of a
+//! prescribed size, and of the others each fourth of the calls for single limits.
 
 use reference::foreign::{self, Answer};
 use reference::random::{self, Random};
-use reference::{check, floors, form, limits, starting};
-use reference::{Lowered, Refusal, Settled, Survey, Verdict};
+use reference::{check, floors, form, found, limits, settle, starting};
+use reference::{Diagram, Lowered, Refusal, Settled, Survey, Verdict};
+use std::cmp::Ordering;
 use std::collections::BTreeMap;
 use std::fmt::Debug;
 use std::time::Instant;
@@ -69,6 +70,7 @@ trait Shown: Debug + PartialEq + Clone {
 }
 
 impl Shown for u32 {}
+impl Shown for u64 {}
 
 impl Shown for u8 {
     fn show(items: &[u8]) -> String {
@@ -363,6 +365,95 @@ impl Compare {
             .or_default() += 1;
     }
 
+    /// A table, the number of a set and a wanted size.
+    fn prescription(&mut self, random: &mut Random) -> (Vec<u32>, u32, u32) {
+        let table = match random.chance(92) {
+            true => random::settling_diagram(random).table(),
+            false => random::damaged_table(random),
+        };
+        let Ok(d) = form(&table) else {
+            let (set, wanted) = (random.between(0, 9), random.between(0, 9));
+            return (table, set, wanted);
+        };
+        let set = random::set_number(random, &d);
+        let index = (set as usize).wrapping_sub(1) % d.count_sets();
+        let wanted = random::wanted(random, &d, index);
+        (table, set, wanted)
+    }
+
+    fn prescribe(&mut self, random: &mut Random) {
+        let (table, set, wanted) = self.prescription(random);
+        self.place += &format!(", set {set}, wanted {wanted}");
+        let ours = |table: &[u32], cells: &mut [u32]| {
+            settled(reference::prescribe(table, set, wanted, cells))
+        };
+        let theirs =
+            |table: &[u32], cells: &mut [u32]| foreign::prescribe(table, set, wanted, cells);
+        let needed = needed(ours(&table, &mut []));
+        let lent = random::lent(random, needed);
+        let lent = random::pattern(random, lent, |bits| bits as u32);
+        let (answer, cells) = self.lent_call("prescribe", &table, lent, ours, theirs);
+        match answer[0] {
+            0 => self.prescribed(&table, (set, wanted), &cells[..needed]),
+            11 => self.impossible(&table, (set, wanted), answer),
+            _ => (),
+        }
+    }
+
+    /// How a wanted size lies to the one that the set settles at without it.
+    fn beside(&self, table: &[u32], set: u32, wanted: u32) -> (&'static str, Vec<u32>) {
+        let Ok(Ok((_, sizes))) = form(table).map(|d| settle(&d)) else {
+            return ("emptied without it", Vec::new());
+        };
+        let beside = match (wanted, wanted.cmp(&sizes[set as usize - 1])) {
+            (0, _) => "wanted 0",
+            (65_536.., _) => "wanted past 16 bits",
+            (_, Ordering::Less) => "below the settled size",
+            (_, Ordering::Equal) => "the settled size",
+            (_, Ordering::Greater) => "above the settled size",
+        };
+        (beside, sizes)
+    }
+
+    /// The cells of an accepted answer are a population in which the set has just
+    /// the wanted size; where it is the settled one, the library's own population.
+    fn prescribed(&mut self, table: &[u32], (set, wanted): (u32, u32), cells: &[u32]) {
+        let said = verdict(reference::validate(table, cells));
+        self.round_trip("the verdict on prescribed cells", &[0; 4], &said);
+        let d = form(table).expect("an accepted table");
+        let sizes = found(&d, cells).expect("cells of an accepted table");
+        let sizes: Vec<u32> = sizes.iter().map(|size| *size as u32).collect();
+        let size = sizes[set as usize - 1];
+        self.round_trip("the size of a prescribed set", &[wanted], &[size]);
+        let (beside, plain) = self.beside(table, set, wanted);
+        let kind = kind_of(&d, set);
+        self.count("prescribe", &format!("accepted, {beside}, a {kind}"));
+        let moved = |(size, plain): &(&u32, &u32)| size != plain;
+        if sizes.iter().zip(&plain).filter(moved).count() > 1 {
+            self.count("prescribe", "accepted, other sets smaller too");
+        }
+        if beside == "the settled size" {
+            let mut own = vec![0; cells.len()];
+            foreign::populate(table, &mut own);
+            self.round_trip("the settled size prescribed", &own, cells);
+        }
+    }
+
+    /// What a refusal with 11 says.
+    fn impossible(&mut self, table: &[u32], (set, wanted): (u32, u32), answer: Answer) {
+        let (beside, _) = self.beside(table, set, wanted);
+        let round = match answer[2] {
+            0 => "round 0",
+            _ => "later",
+        };
+        let named = match answer[1] == u64::from(set) {
+            true => "the set",
+            false => "another set",
+        };
+        let outcome = format!("refused 11, {beside}, {round}, {named}");
+        self.count("prescribe", &outcome);
+    }
+
     /// One of the calls for single limits.
     fn limit_input(&mut self, random: &mut Random) {
         match random.below(20) {
@@ -393,6 +484,17 @@ impl Compare {
     }
 }
 
+/// The kind of the set with this number.
+fn kind_of(d: &Diagram, set: u32) -> &'static str {
+    let roles = d.types.len() + d.preds.len();
+    match set as usize - 1 {
+        i if i < d.types.len() => "type",
+        i if i < roles => "predicate",
+        i if i < roles + d.count_roles() => "role",
+        _ => "group",
+    }
+}
+
 /// The generator for the input with this number.
 fn nth(seed: u64, i: u64) -> Random {
     Random::new(Random::new(seed).bits() ^ Random::new(i).bits())
@@ -415,10 +517,13 @@ fn main() {
     let start = Instant::now();
     for i in 0..count {
         compare.place = format!("seed {seed}, input {i}");
-        // Each fourth is of single limits; the others count without them.
-        match i % 4 {
-            3 => compare.limit_input(&mut nth(!seed, i / 4)),
-            rest => compare.input(&mut nth(seed, i / 4 * 3 + rest)),
+        // Each fifth is of a prescribed size, of the rest each fourth of single
+        // limits; the others count without them.
+        let rest = i / 5 * 4 + i % 5;
+        match (i % 5, rest % 4) {
+            (4, _) => compare.prescribe(&mut nth(seed ^ 1 << 63, i / 5)),
+            (_, 3) => compare.limit_input(&mut nth(!seed, rest / 4)),
+            (_, own) => compare.input(&mut nth(seed, rest / 4 * 3 + own)),
         }
     }
     let rate = count as f64 / start.elapsed().as_secs_f64();

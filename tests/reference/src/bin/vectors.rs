@@ -1,9 +1,9 @@
 //! Compares the reference with expected outcomes: `vectors PATH ..`. A path is a
 //! folder with the files `texts.jsonl`, `tables.txt`, `cells.txt` and `slow.txt`,
-//! and with `s13.txt` if it is there; or one of these files alone.
+//! and with `s13.txt` and `s1.txt` if they are there; or one of these files alone.
 
 use reference::random::Random;
-use reference::{check, form, lower, program, start, survey, validate, Refusal};
+use reference::{check, form, lower, prescribe, program, start, survey, validate, Refusal};
 use std::path::Path;
 
 /// The counts over one file; the first differences are printed.
@@ -73,6 +73,20 @@ fn numbers(line: &str, key: &str) -> Option<Vec<u32>> {
     list.split(',').map(|n| n.parse().ok()).collect()
 }
 
+/// The one number after `key=`.
+fn number(line: &str, key: &str) -> Option<u32> {
+    match numbers(line, key)?[..] {
+        [number] => Some(number),
+        _ => None,
+    }
+}
+
+/// Numbers with commas between.
+fn joined(numbers: &[u32]) -> String {
+    let numbers: Vec<String> = numbers.iter().map(u32::to_string).collect();
+    numbers.join(",")
+}
+
 fn refused(r: Refusal) -> String {
     format!("refused={},{},{}", r.number, r.place, r.round)
 }
@@ -135,8 +149,25 @@ fn s13_case(tally: &mut Tally, place: &str, line: &str) -> Option<()> {
                 Ok(settled) => format!("rounds={}", settled.rounds),
                 Err(refusal) => refused(refusal),
             };
-            let ceilings: Vec<String> = ceilings.iter().map(u32::to_string).collect();
-            format!("ceilings={} {said}", ceilings.join(","))
+            format!("ceilings={} {said}", joined(&ceilings))
+        }
+        Err(refusal) => refused(refusal),
+    };
+    tally.case(place, expected, &found);
+    Some(())
+}
+
+/// "the table, the set number, the wanted size and the length of the lent space".
+fn s1_case(tally: &mut Tally, place: &str, line: &str) -> Option<()> {
+    let (input, expected) = line.split_once(" -> ")?;
+    let table = numbers(input, "table")?;
+    let (set, wanted) = (number(input, "set")?, number(input, "wanted")?);
+    let mut cells = vec![0; number(input, "space")? as usize];
+    let found = match prescribe(&table, set, wanted, &mut cells) {
+        Ok(settled) => {
+            let cells = joined(&cells[..settled.length]);
+            let (rounds, length) = (settled.rounds, settled.length);
+            format!("rounds={rounds} length={length} cells={cells}")
         }
         Err(refusal) => refused(refusal),
     };
@@ -181,6 +212,7 @@ fn file(path: &Path) -> std::io::Result<usize> {
         Some(name @ "tables.txt") => lines(path, name, table_case),
         Some(name @ "cells.txt") => lines(path, name, cells_case),
         Some(name @ "s13.txt") => lines(path, name, s13_case),
+        Some(name @ "s1.txt") => lines(path, name, s1_case),
         Some("slow.txt") => slow(path),
         _ => Err(std::io::Error::other("no file of cases has this name")),
     }
@@ -199,9 +231,10 @@ fn main() -> std::io::Result<()> {
         for name in ["texts.jsonl", "tables.txt", "cells.txt", "slow.txt"] {
             differences += file(&path.join(name))?;
         }
-        let limits = path.join("s13.txt");
-        if limits.exists() {
-            differences += file(&limits)?;
+        for path in ["s13.txt", "s1.txt"].map(|name| path.join(name)) {
+            if path.exists() {
+                differences += file(&path)?;
+            }
         }
     }
     std::process::exit(i32::from(differences > 0));

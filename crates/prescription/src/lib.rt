@@ -26,41 +26,36 @@ pub enum Prescription {
     Accepted { length: usize, rounds: u32 },
 }
 
-// Of a valid table with so many roles and groups: populates it with the set kept to the wanted size.
+// Of a valid table with so many roles and groups: populates it with the set of this number kept to the
+// wanted size.
 fn keep(
     t: &[u32],
     roles: usize,
     groups: usize,
-    set: usize,
+    number: usize,
     wanted: u32,
     cells: &mut [u32],
 ) -> Prescription
     requires { ⌜ ValidTotals (now t) roles groups ⌝ }
-    requires { ⌜ Between 1 set (setCount (diagramOf (now t))) ⌝ }
+    requires { ⌜ Between 1 number (setCount (diagramOf (now t))) ⌝ }
     ensures { λ r.
-        ⌜ Answered (keptAt (now (t .entry)) (index set) wanted (length (now (cells .entry)))) r (now (cells .entry))
+        ⌜ Answered (keptAt (now (t .entry)) (index number) wanted (length (now (cells .entry)))) r (now (cells .entry))
         (now (cells .exit)) ⌝ }
 {
     let start = Start::Kept {
-        set: set - 1,
+        set: number - 1,
         size: wanted,
     };
     let settled = populate::populate_valid(t, roles, groups, start, cells);
     match settled {
         Settlement::Refused { fault, line } => Prescription::Refused { fault, line },
-        Settlement::Unsatisfiable {
-            set: emptied,
-            round,
-        } => Prescription::Impossible {
-            set: emptied,
-            round,
-        },
+        Settlement::Unsatisfiable { set, round } => Prescription::Impossible { set, round },
         Settlement::TooShort { needed } => Prescription::TooShort { needed },
         Settlement::Accepted { length, rounds } => Prescription::Accepted { length, rounds },
     }
 }
 
-// Of a valid table with so many sets: the number is that of one of them, or refused.
+// Of a valid table with so many sets: one of them has the number, or it is refused.
 fn prescribe_valid(
     t: &[u32],
     roles: usize,
@@ -76,14 +71,14 @@ fn prescribe_valid(
         ⌜ Answered (numbered (now (t .entry)) number wanted (length (now (cells .entry)))) r (now (cells .entry))
         (now (cells .exit)) ⌝ }
 {
-    let set = table::index(number);
-    if set == 0 {
+    let asked = table::index(number);
+    if asked == 0 {
         return Prescription::NoSet { number };
     }
-    if sets < set {
+    if sets < asked {
         return Prescription::NoSet { number };
     }
-    keep(t, roles, groups, set, wanted, cells)
+    keep(t, roles, groups, asked, wanted, cells)
 }
 
 // Of any table; `wide` is scratch.

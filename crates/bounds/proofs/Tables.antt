@@ -23,7 +23,7 @@ use Rattle.table.specs.Positions.{diagramOf}
 use Rattle.table.specs.Valid.{Valid}
 use Rattle.table.specs.Laws.Valid.{sets-few}
 use Rattle.orm.specs.Laws.Bounds.{length-lower, upper-sets, bounds-paired, lower-few}
-use Rattle.limits.specs.Prepared.{ValidTotals, Roomy, Prepared}
+use Rattle.limits.specs.Prepared.{mostSets, mostLimits, ValidTotals, Roomy, Prepared}
 use Rattle.limits.specs.declared.Extent.{Extent}
 use Rattle.limits.specs.Laws.Room.{limits-fit, few-limits-fit}
 use Rattle.limits.specs.Laws.Start.{start-bounds}
@@ -137,13 +137,13 @@ module _ {t : List ℕ} {q : Problem} (posed : Posed t q) (a b c d e f : List �
   valid-so : Valid t
   valid-so = posed .totals .valid
 
-  few : length (lower (diagramOf t)) ≤ 208
+  few : length (lower (diagramOf t)) ≤ mostSets
   few = lower-few (diagramOf t) (valid-so .formed)
 
-  pub space-any : length a ≡ 3776 → length b ≡ 208 → length c ≡ 208 → length d ≡ 208 → length e ≡ 208 → length f ≡ 7760
+  pub space-any : length a ≡ mostLimits → length b ≡ mostSets → length c ≡ mostSets → length d ≡ mostSets → length e ≡ mostSets → length f ≡ 7760
       → Space t a b c d e f
   space-any ha hb hc hd he hf =
-      let m : length (encode (limits (diagramOf t))) ≤ 3776 = limits-fit (diagramOf t) (valid-so .formed) in
+      let m : length (encode (limits (diagramOf t))) ≤ mostLimits = limits-fit (diagramOf t) (valid-so .formed) in
       record {
         limits-room = omega arith;
         lower-room = omega (arith, few);

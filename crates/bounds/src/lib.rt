@@ -182,8 +182,8 @@ fn check_in(
 }
 
 // A call's result is a name in what is to be proved; an array written in place is all its numbers.
-fn place_space() -> [usize; 208] {
-    [0usize; 208]
+fn place_space() -> [usize; limits::MOST_SETS] {
+    [0usize; limits::MOST_SETS]
 }
 
 fn link_space() -> [u32; 7760] {

@@ -29,7 +29,7 @@ use Rattle.widening.specs.Answer.{acceptanceOf, described, widened}
 use Rattle.widening.specs.Laws.Accepts.{accepted-refused, accepted-as}
 use Rattle.widening.specs.declared.Acceptance.{Acceptance}
 use Rattle.widening.specs.declared.Acceptance.the-variants as acceptances
-use Rattle.limits.specs.Prepared.{ValidTotals}
+use Rattle.limits.specs.Prepared.{mostSets, ValidTotals}
 use Rattle.bounds.specs.Answer.{Answered, checked, Settled}
 use Rattle.bounds.specs.Laws.Ends.{told-short, told-accepted, Ends, emptied, settled, ends}
 use Rattle.bounds.specs.Laws.Starts.{starts-own}
@@ -114,7 +114,7 @@ module _ (t w : List ℕ) {w′ : List ℕ} {r : Acceptance} {n types preds role
 accepted-not : {n rounds : ℕ} {r : Settlement} → r ≡ Accepted n rounds → OneOf (0 ∷ 1 ∷ 2 ∷ []) (tagOf the-type r) → ⊥
 accepted-not q k = ⊎-elim (λ z. absurd (omega arith)) (⊎-elim (λ z. absurd (omega arith)) (λ z. absurd (omega arith))) (rw q at k)
 
-module _ (t s s′ : List ℕ) {roles groups : ℕ} (a : Settlement) (known : ValidTotals t roles groups) (long : length s ≡ 208)
+module _ (t s s′ : List ℕ) {roles groups : ℕ} (a : Settlement) (known : ValidTotals t roles groups) (long : length s ≡ mostSets)
     (h : Answered (checked Own t (length s)) a s s′) where
   pub check-refused : {o o′ : List ℕ} {r : ℕ} → OneOf (0 ∷ 1 ∷ 2 ∷ []) (tagOf the-type a) → Wrote o 0 (settlementLine a) o′ r
       → Wrote o 0 (reportOf (diagramOf t)) o′ r

@@ -6,7 +6,7 @@ ghost use Rattle.orm.specs.Program.{program};
 ghost use Rattle.buffer.specs.Written.{Wrote};
 ghost use Rattle.reading.specs.WideTable.{mostNumbers};
 ghost use Rattle.table.specs.Positions.{diagramOf};
-ghost use Rattle.limits.specs.Prepared.{ValidTotals};
+ghost use Rattle.limits.specs.Prepared.{mostSets, ValidTotals};
 ghost use Rattle.bounds.specs.Answer.{Settled};
 ghost use Rattle.bounds.specs.declared.Start.the-variants.{Own};
 ghost use Rattle.command.specs.Reports.{refusalLine, settlementLine, reportOf, textReport, tableReport};
@@ -69,7 +69,7 @@ fn print_sizes(
     out: &mut [u8],
 ) -> usize
     requires { ⌜ ValidTotals (now t) roles groups ⌝ }
-    requires { ⌜ length (now sizes) ≡ 208 ⌝ }
+    requires { ⌜ length (now sizes) ≡ mostSets ⌝ }
     requires { ⌜ length (now cells) ≡ 16000 ⌝ }
     ensures { λ r. ⌜ Wrote (now (out .entry)) 0 (reportOf (diagramOf (now (t .entry)))) (now (out .exit)) r ⌝ }
 {

@@ -13,6 +13,14 @@ use Rattle.selection.specs.Selected.{typesOf}
 use Rattle.limits.specs.Single.{Counted}
 use Rattle.limits.specs.declared.Extent.{Extent}
 
+-- No diagram has more sets: 32 types, 32 predicates, 96 roles, 48 groups
+abbrev pub mostSets : ℕ
+mostSets = 208
+
+-- The limits of no diagram take more numbers (`limits-fit`, Laws/Room)
+abbrev pub mostLimits : ℕ
+mostLimits = 3776
+
 -- A valid table, and how many roles and groups its diagram has
 pub record ValidTotals (t : List ℕ) (roles groups : ℕ) : Type 0 where
   pub valid : Valid t

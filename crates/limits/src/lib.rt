@@ -24,7 +24,12 @@ ghost use Rattle.selection.specs.Selected.{Types};
 ghost use Rattle.lowering.specs.Encoding.{encode};
 ghost use Rattle.buffer.specs.Written.{Wrote};
 ghost use Rattle.table.specs.Positions.{diagramOf, Walkable};
-ghost use Rattle.limits.specs.Prepared.{ValidTotals, Listable, typesIn, Roomy, Prepared};
+ghost use Rattle.limits.specs.Prepared.{mostSets, mostLimits, ValidTotals, Listable, typesIn, Roomy, Prepared};
+
+// No diagram has more sets, and the limits of none take more numbers.
+pub const MOST_SETS: usize = 208;
+
+pub const MOST_LIMITS: usize = 3776;
 
 // How many sets a diagram has, and how many numbers its limits take.
 pub struct Extent {
@@ -33,17 +38,17 @@ pub struct Extent {
 }
 
 // Room for the limits of every diagram.
-pub fn limit_space() -> [u32; 3776]
-    ensures { λ r. ⌜ r ≡ replicate 3776 0 ⌝ }
+pub fn limit_space() -> [u32; MOST_LIMITS]
+    ensures { λ r. ⌜ r ≡ replicate mostLimits 0 ⌝ }
 {
-    [0u32; 3776]
+    [0u32; MOST_LIMITS]
 }
 
 // Room for a number of each set of every diagram.
-pub fn set_space() -> [u32; 208]
-    ensures { λ r. ⌜ r ≡ replicate 208 0 ⌝ }
+pub fn set_space() -> [u32; MOST_SETS]
+    ensures { λ r. ⌜ r ≡ replicate mostSets 0 ⌝ }
 {
-    [0u32; 208]
+    [0u32; MOST_SETS]
 }
 
 // A number of roles or groups.

@@ -17,7 +17,7 @@ use Rattle.widening.specs.Answer.{acceptanceOf, described, widened}
 use Rattle.widening.specs.Laws.Accepts.{accepted-refused, accepted-as}
 use Rattle.widening.specs.declared.Acceptance.{Acceptance}
 use Rattle.widening.specs.declared.Acceptance.the-variants as acceptances
-use Rattle.limits.specs.Prepared.{ValidTotals}
+use Rattle.limits.specs.Prepared.{mostSets, ValidTotals}
 use Rattle.bounds.specs.Answer.{Answered, checked, Settled}
 use Rattle.bounds.specs.Start.{Starts}
 use Rattle.bounds.specs.declared.Start.{Start}
@@ -60,7 +60,7 @@ module _ (t c o : List ℕ) (rounds : ℕ) where
 -- ---- the sizes that the check has settled on
 
 module _ (x : Start) (t s : List ℕ) {s′ : List ℕ} {roles groups : ℕ} (r : Settlement) {n k : ℕ} (p : r ≡ Accepted k n) (known : ValidTotals t roles groups)
-    (starts : Starts x (setCount (diagramOf t))) (room : length s ≡ 208) (h : Answered (checked x t (length s)) r s s′) where
+    (starts : Starts x (setCount (diagramOf t))) (room : length s ≡ mostSets) (h : Answered (checked x t (length s)) r s s′) where
   ended : Settled x t (take k s′) n
   ended = sizes-settled x t s r p known starts room h
 
@@ -73,7 +73,7 @@ module _ (x : Start) (t s : List ℕ) {s′ : List ℕ} {roles groups : ℕ} (r 
 -- ---- the check's refusals are handed on
 
 module _ (x : Start) (t s b : List ℕ) {s′ : List ℕ} {roles groups : ℕ} (r : Settlement) (known : ValidTotals t roles groups)
-    (starts : Starts x (setCount (diagramOf t))) (room : length s ≡ 208) (h : Answered (checked x t (length s)) r s s′) where
+    (starts : Starts x (setCount (diagramOf t))) (room : length s ≡ mostSets) (h : Answered (checked x t (length s)) r s s′) where
   -- the position among the answers tells that it is none of acceptance
   stays : Ends x t s s′ r → OneOf (0 ∷ 1 ∷ 2 ∷ []) (tagOf the-type r) → Answered (populated x t (length b)) r b b
   unfolding settledInto sizesBy written bufferAfter

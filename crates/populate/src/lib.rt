@@ -9,7 +9,7 @@ ghost use Rattle.orm.specs.Sets.{setCount};
 ghost use Rattle.orm.specs.Outcome.{bufferAfter, written, handedBack};
 ghost use Rattle.orm.specs.Calls.{populateCall};
 ghost use Rattle.reading.specs.WideTable.{mostNumbers};
-ghost use Rattle.limits.specs.Prepared.{ValidTotals};
+ghost use Rattle.limits.specs.Prepared.{mostSets, ValidTotals};
 ghost use Rattle.table.specs.Positions.{diagramOf};
 ghost use Rattle.table.specs.Valid.{Valid};
 ghost use Rattle.tuples.specs.Steps.{Small};
@@ -48,7 +48,7 @@ fn populate_in(
 ) -> Settlement
     requires { ⌜ ValidTotals (now t) roles groups ⌝ }
     requires { ⌜ Starts start (setCount (diagramOf (now t))) ⌝ }
-    requires { ⌜ length (now sizes) ≡ 208 ⌝ }
+    requires { ⌜ length (now sizes) ≡ mostSets ⌝ }
     ensures { λ r.
         ⌜ Answered (populated start (now (t .entry)) (length (now (cells .entry)))) r (now (cells .entry)) (now (cells .exit)) ⌝ }
 {

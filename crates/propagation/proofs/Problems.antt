@@ -29,7 +29,7 @@ use Rattle.table.specs.Laws.Valid.{valid-walkable}
 use Rattle.lowering.specs.Encoding.{encode, decode}
 use Rattle.lowering.specs.Closed.{Closed}
 use Rattle.lowering.specs.Laws.Decoding.{decode-encode}
-use Rattle.limits.specs.Prepared.{Listable}
+use Rattle.limits.specs.Prepared.{mostSets, mostLimits, Listable}
 use Rattle.limits.specs.Laws.Room.{limits-fit}
 use Rattle.limits.specs.Laws.Start.{start-bounds}
 use Rattle.propagation.specs.Answer.{Converted}
@@ -40,7 +40,7 @@ use Rattle.propagation.specs.declared.Problem.the-variants.{Refused, Rea
 -- ---- a valid table
 
 module _ {t : List ℕ} {roles sets : ℕ} (known : Counted t roles sets) where
-  pub known-listable : (types : List ℕ) {count : ℕ} → length types ≡ 208 → count ≡ roles → Listable t count types
+  pub known-listable : (types : List ℕ) {count : ℕ} → length types ≡ mostSets → count ≡ roles → Listable t count types
   known-listable types et e =
       let few : length (allRoles (diagramOf t)) ≤ 96 = known .valid .formed .roleCount in
       record {
@@ -50,7 +50,7 @@ module _ {t : List ℕ} {roles sets : ℕ} (known : Counted t roles sets) where
         room = omega (arith, few);
       }
 
-  pub limits-posed : {n : ℕ} (ls : List ℕ) {ls′ : List ℕ} → Wrote ls 0 (encode (limits (diagramOf t))) ls′ n → length ls ≡ 3776
+  pub limits-posed : {n : ℕ} (ls : List ℕ) {ls′ : List ℕ} → Wrote ls 0 (encode (limits (diagramOf t))) ls′ n → length ls ≡ mostLimits
       → Posed (accepted (diagramOf t)) (Ready n sets) ls′
   limits-posed ls w el =
       let room : length (encode (limits (diagramOf t))) ≤ length ls = omega (arith, limits-fit (diagramOf t) (known .valid .formed)) in

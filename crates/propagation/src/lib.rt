@@ -13,6 +13,7 @@ ghost use Rattle.reading.specs.WideTable.{mostNumbers};
 ghost use Rattle.table.specs.Positions.{diagramOf};
 ghost use Rattle.lowering.specs.Encoding.{limitAt, decode};
 ghost use Rattle.lowering.specs.Closed.{Whole, Closed};
+ghost use Rattle.limits.specs.Prepared.{mostSets, mostLimits};
 ghost use Rattle.reader.specs.Answer.{conversionOf};
 ghost use Rattle.propagation.specs.Answer.{propagationOf, Converted, Stepped, Surveyed, applyOn, lowerOn, surveyOn};
 ghost use Rattle.propagation.specs.Posed.{Counted, Bounded, Posed};
@@ -38,8 +39,8 @@ enum Problem {
 // Of a valid table with so many roles and sets; `types` is scratch.
 fn ready(t: &[u32], roles: usize, sets: usize, types: &mut [u32], limits: &mut [u32]) -> Problem
     requires { ⌜ Counted (now t) roles sets ⌝ }
-    requires { ⌜ length (now types) ≡ 208 ⌝ }
-    requires { ⌜ length (now limits) ≡ 3776 ⌝ }
+    requires { ⌜ length (now types) ≡ mostSets ⌝ }
+    requires { ⌜ length (now limits) ≡ mostLimits ⌝ }
     ensures { λ r. ⌜ Posed (accepted (diagramOf (now (t .entry)))) r (now (limits .exit)) ⌝ }
 {
     let count = limits::count(roles);
@@ -50,8 +51,8 @@ fn ready(t: &[u32], roles: usize, sets: usize, types: &mut [u32], limits: &mut [
 // Of any table; `wide` and `space` are scratch.
 fn pose_in(table: &[u32], wide: &mut [u32], space: &mut [u32], limits: &mut [u32]) -> Problem
     requires { ⌜ length (now wide) ≡ mostNumbers ⌝ }
-    requires { ⌜ length (now space) ≡ 208 ⌝ }
-    requires { ⌜ length (now limits) ≡ 3776 ⌝ }
+    requires { ⌜ length (now space) ≡ mostSets ⌝ }
+    requires { ⌜ length (now limits) ≡ mostLimits ⌝ }
     ensures { λ r. ⌜ Posed (diagramIn tableLine (now (table .entry))) r (now (limits .exit)) ⌝ }
 {
     let acceptance = widening::accept(table, wide);
@@ -72,7 +73,7 @@ fn pose_in(table: &[u32], wide: &mut [u32], space: &mut [u32], limits: &mut [u32
 
 // Writes the limits of a table's diagram to the front of the array.
 fn pose(table: &[u32], limits: &mut [u32]) -> Problem
-    requires { ⌜ length (now limits) ≡ 3776 ⌝ }
+    requires { ⌜ length (now limits) ≡ mostLimits ⌝ }
     ensures { λ r. ⌜ Posed (diagramIn tableLine (now (table .entry))) r (now (limits .exit)) ⌝ }
 {
     let mut wide = widening::scratch();
@@ -162,7 +163,7 @@ fn start_in(table: &[u32], wide: &mut [u32], sizes: &mut [u32]) -> Conversion
 }
 
 fn lower_in(table: &[u32], number: u32, limits: &mut [u32], sizes: &mut [u32]) -> Propagation
-    requires { ⌜ length (now limits) ≡ 3776 ⌝ }
+    requires { ⌜ length (now limits) ≡ mostLimits ⌝ }
     ensures { λ r.
         ⌜ Stepped (lowerCall (now (table .entry)) number (now (sizes .entry))) r (now (sizes .entry)) (now (sizes .exit)) ⌝ }
 {
@@ -174,7 +175,7 @@ fn lower_in(table: &[u32], number: u32, limits: &mut [u32], sizes: &mut [u32]) -
 }
 
 fn survey_in(table: &[u32], limits: &mut [u32], sizes: &[u32]) -> Propagation
-    requires { ⌜ length (now limits) ≡ 3776 ⌝ }
+    requires { ⌜ length (now limits) ≡ mostLimits ⌝ }
     ensures { λ r. ⌜ Surveyed (surveyCall (now (table .entry)) (now (sizes .entry))) r ⌝ }
 {
     let posed = pose(table, limits);

@@ -14,7 +14,7 @@ use Rattle.grammar.specs.Fault.{numberOf}
 use Rattle.grammar.specs.Laws.Faults.{few-faults}
 use Rattle.table.specs.Positions.{diagramOf}
 use Rattle.table.specs.Valid.{Valid}
-use Rattle.limits.specs.Prepared.{ValidTotals}
+use Rattle.limits.specs.Prepared.{mostSets, ValidTotals}
 use Rattle.bounds.specs.Answer.{settlementOf, Answered, unchanged, checked, Settled}
 use Rattle.bounds.specs.Start.{verdictBy, Starts}
 use Rattle.bounds.specs.Laws.Starts.{starts-inside}
@@ -72,7 +72,7 @@ pub data Ends (x : Start) (t before after : List ℕ) (r : Settlement) : Type 0 
   settled : (n : ℕ) (c : List ℕ) → Settled x t c n → after ≡ c ++ drop (length c) before → r ≡ Accepted (length c) n → Ends x t before after r
 
 module _ (x : Start) (t before after : List ℕ) (v : Valid t) (starts : Starts x (setCount (diagramOf t)))
-    (room : length before ≡ 208) (r : Settlement) (h : Answered (checked x t (length before)) r before after) where
+    (room : length before ≡ mostSets) (r : Settlement) (h : Answered (checked x t (length before)) r before after) where
   pub ends : Ends x t before after r
   ends = go (verdictBy x (diagramOf t)) refl h
     where
@@ -85,7 +85,7 @@ module _ (x : Start) (t before after : List ℕ) (v : Valid t) (starts : Starts 
 -- ---- the sizes at the front
 
 module _ (x : Start) (t before : List ℕ) {after : List ℕ} {roles groups : ℕ} (r : Settlement) {n k : ℕ} (p : r ≡ Accepted k n)
-    (known : ValidTotals t roles groups) (starts : Starts x (setCount (diagramOf t))) (room : length before ≡ 208)
+    (known : ValidTotals t roles groups) (starts : Starts x (setCount (diagramOf t))) (room : length before ≡ mostSets)
     (h : Answered (checked x t (length before)) r before after) where
   record Front : Type 0 where
     sizes : List ℕ

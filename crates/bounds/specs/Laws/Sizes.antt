@@ -13,6 +13,7 @@ use Rattle.orm.specs.Sets.{upper, limits, verdictFrom}
 use Rattle.orm.specs.WellFormed.{WellFormed}
 use Rattle.orm.specs.Laws.Rounds.{Inside, inside-laws}
 use Rattle.orm.specs.Laws.Bounds.{upper-few, upper-small}
+use Rattle.limits.specs.Prepared.{mostSets}
 
 module _ (d : Diagram) (w : WellFormed d) {low high : List ℕ} (i : Inside d low high) {n : ℕ} {c : List ℕ} (e : verdictFrom d low high ≡ fixpoint n c) where
   solution : Solution (limits d) high c
@@ -23,7 +24,7 @@ module _ (d : Diagram) (w : WellFormed d) {low high : List ℕ} (i : Inside d lo
   under = ≼-trans (solution .under) (i .≼-upper)
 
   -- as many as there are sets
-  pub sizes-few : length c ≤ 208
+  pub sizes-few : length c ≤ mostSets
   sizes-few = omega (arith, under .sized, upper-few d w)
 
   pub sizes-small : (k : ℕ) → getD c k 0 ≤ 4096

@@ -11,9 +11,10 @@ use Rattle.lowering.specs.Encoding.{encode, decode}
 use Rattle.lowering.specs.Laws.Decoding.{decode-encode}
 use Rattle.buffer.specs.Written.{Wrote}
 use Rattle.buffer.specs.Laws.{wrote-front}
+use Rattle.limits.specs.Prepared.{mostLimits}
 use Rattle.limits.specs.Laws.Room.{limits-fit}
 
 -- `m` numbers were written
-pub limits-decode : (d : Diagram) → WellFormed d → {o o′ : List ℕ} {m : ℕ} → 3776 ≤ length o → Wrote o 0 (encode (limits d)) o′ m
+pub limits-decode : (d : Diagram) → WellFormed d → {o o′ : List ℕ} {m : ℕ} → mostLimits ≤ length o → Wrote o 0 (encode (limits d)) o′ m
     → decode (take m o′) ≡ limits d
 limits-decode d w h v = ap decode (wrote-front v (omega (arith, limits-fit d w))) ∙ decode-encode (limits d)

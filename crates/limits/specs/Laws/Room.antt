@@ -21,6 +21,7 @@ use Rattle.lowering.specs.Encoding.{encodeExpr, encode}
 use Rattle.lowering.specs.Laws.Decoding.{encode-append}
 use Rattle.reading.specs.WideTable.{wideTable}
 use Rattle.reading.specs.TableLength.{wide-length}
+use Rattle.limits.specs.Prepared.{mostLimits}
 
 abbrev size : List Limit → ℕ
 size ls = length (encode ls)
@@ -186,7 +187,7 @@ module _ (d : Diagram) (w : WellFormed d) where
       )
 
   -- of every diagram
-  pub limits-fit : length (encode (limits d)) ≤ 3776
+  pub limits-fit : length (encode (limits d)) ≤ mostLimits
   limits-fit = omega (arith, limits-size, w .typeCount .1, w .predCount .1, w .roleCount, w .groupCount)
 
   -- of one with a table of at most 64 numbers

@@ -43,7 +43,7 @@ void legshorgan_check(const uint32_t *table, size_t table_length, uint32_t *size
 void legshorgan_populate(const uint32_t *table, size_t table_length, uint32_t *cells, size_t cells_length, uint64_t answer[4]);
 
 /* A population in which one set has just so many: writes the cells of a population of a table's diagram, as legshorgan_populate does,
- * in which the set with this number (from 1: types, predicates, roles, groups, in file order) has exactly `wanted` members and every
+ * in which the set with this number (from 1: types, predicates, roles, groups, in file order) has exactly wanted members and every
  * other set as many as it then can have. Refuses with 1 to 6; 10 where no set has the number; 11 where no population of the diagram
  * has that many in that set; then 8.
  *   answer[0]  0: accepted; else the number of the refusal, 1 to 6, 10, 11 or 8

@@ -1,3 +1,3 @@
-pub mod Narrowing
+pub mod Starting
 pub mod Answers
 pub mod Tables

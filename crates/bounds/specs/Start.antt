@@ -12,10 +12,12 @@ use Rattle.bounds.specs.declared.Problem.{Problem}
 use Rattle.bounds.specs.declared.Start.{Start}
 use Rattle.bounds.specs.declared.Start.the-variants.{Own, Kept}
 
+-- The lower bounds that the rounds start from, of these
 abbrev pub lowerBy : Start → List ℕ → List ℕ
 lowerBy Own low = low
 lowerBy (Kept s size) low = raisedAt s size low
 
+-- The upper bounds likewise
 abbrev pub upperBy : Start → List ℕ → List ℕ
 upperBy Own high = high
 upperBy (Kept s size) high = cappedAt s size high

@@ -1,8 +1,11 @@
 // The check: the sizes of a diagram's sets, from its table. The table is widened, the bounds and
 // limits of the sets are written into local arrays, and the rounds run over them.
+mod narrowing;
+
+use crate::narrowing::narrow;
 use widening::Acceptance;
 ghost use mathlib.Core.Path.{_≡_};
-ghost use Prim.Native.Nat.{_≤_, _<_};
+ghost use Prim.Native.Nat.{_≤_};
 ghost use lib.ListN.{length};
 ghost use Rattle.fixpoint.specs.Limits.{fixpoint, run};
 ghost use Rattle.lowering.specs.Encoding.{decode};
@@ -11,10 +14,9 @@ ghost use Rattle.limits.specs.Prepared.{ValidTotals};
 ghost use Rattle.orm.specs.Sets.{setCount};
 ghost use Rattle.orm.specs.Outcome.{bufferAfter, written, handedBack};
 ghost use Rattle.orm.specs.Calls.{settledInto, checkCall};
-ghost use Rattle.orm.specs.Prescribe.{raisedAt, cappedAt};
 ghost use Rattle.reading.specs.WideTable.{mostNumbers};
 ghost use Rattle.table.specs.Positions.{diagramOf};
-ghost use Rattle.bounds.specs.Start.{lowerBy, upperBy, Starts, Narrowed, Posed};
+ghost use Rattle.bounds.specs.Start.{lowerBy, upperBy, Starts, Posed};
 ghost use Rattle.bounds.specs.Answer.{settlementOf, Answered, unchanged, checked, Space};
 
 // How a check ends, or any call that makes something of the settled sizes: the table is refused (1 to
@@ -42,41 +44,6 @@ struct Problem {
 }
 
 // ---- the rounds
-
-// A lower bound becomes the larger of itself and the size.
-fn raise(lower: &mut [u32], set: usize, size: u32)
-    requires { ⌜ set < length (now lower) ⌝ }
-    ensures { λ _. ⌜ now (lower .exit) ≡ raisedAt set size (now (lower .entry)) ⌝ }
-{
-    if lower[set] < size {
-        lower[set] = size;
-    }
-}
-
-// An upper bound becomes the smaller of itself and the size.
-fn cap(upper: &mut [u32], set: usize, size: u32)
-    requires { ⌜ set < length (now upper) ⌝ }
-    ensures { λ _. ⌜ now (upper .exit) ≡ cappedAt set size (now (upper .entry)) ⌝ }
-{
-    if size < upper[set] {
-        upper[set] = size;
-    }
-}
-
-// The bounds to start from, of the diagram's own.
-fn narrow(start: Start, lower: &mut [u32], upper: &mut [u32])
-    requires { ⌜ Starts start (length (now lower)) ⌝ }
-    requires { ⌜ Starts start (length (now upper)) ⌝ }
-    ensures { λ _. ⌜ Narrowed start (now (lower .entry)) (now (upper .entry)) (now (lower .exit)) (now (upper .exit)) ⌝ }
-{
-    match start {
-        Start::Own => {}
-        Start::Kept { set, size } => {
-            raise(lower, set, size);
-            cap(upper, set, size);
-        }
-    }
-}
 
 // The sizes go to the front of the buffer if it is long enough.
 fn fit(result: &[u32], rounds: u32, sizes: &mut [u32]) -> Settlement

@@ -62,11 +62,13 @@ module _ (number : ℕ) (make : List ℕ → List ℕ) (space : ℕ) where
       by-test false q = let z : _≡_ {A = ℕ} 0 1 = cc in omega arith
 
   -- No other number is refused with but that and 8
-  pub refuses-only : (v : Verdict) {other place round : ℕ} → ¬ (other ≡ number) → ¬ (other ≡ 8) → ¬ (settledInto number make v space ≡ refused other place round)
+  pub refuses-only : (v : Verdict) {other place round : ℕ} → ¬ (other ≡ number) → ¬ (other ≡ 8)
+      → ¬ (settledInto number make v space ≡ refused other place round)
   refuses-only (unsatisfiable s n) {other} own short h =
       let z : other ≡ number = cc (settled-unsatisfiable {s = s} {n = n} refl) in
       own z
-  refuses-only (fixpoint n c) {other} {place} {round} own short h = unfold fitted in by-test (ltb space (length (make c))) (sym (settled-fixpoint refl) ∙ h)
+  refuses-only (fixpoint n c) {other} {place} {round} own short h =
+      unfold fitted in by-test (ltb space (length (make c))) (sym (settled-fixpoint refl) ∙ h)
     where
       by-test : (b : Bool) → ¬ ((elim b [ true ↦ refused 8 (length (make c)) 0 | false ↦ accepted (make c) ] >>= sized n) ≡ refused other place round)
       by-test true q = short (cc)
@@ -100,19 +102,23 @@ module _ {d : Diagram} {low high : List ℕ} (form : WellFormed d) (i : Inside d
       writes : (space : ℕ) → length (make c) ≤ space → call space ≡ accepted (record { rounds = n; result = make c })
       writes space h = ends space ∙ settled-fixpoint number make space v ∙ ap (_>>= sized n) (fits space (make c) h)
 
+-- Refused by this number, at some place and round
+abbrev RefusedBy : ℕ → Outcome Sized → Type 0
+RefusedBy number o = (place : ℕ) × (round : ℕ) × (o ≡ refused number place round)
+
 -- It is refused so, or there is one
 module _ {number : ℕ} {d : Diagram} {low high : List ℕ} {None : Type 0} {call : ℕ → Outcome Sized} (r : RefusesBy number d low high None call)
     (space : ℕ) where
-  pub refused-or-some : ((place : ℕ) × (round : ℕ) × (call space ≡ refused number place round)) ⊎ (¬ None)
+  pub refused-or-some : RefusedBy number (call space) ⊎ (¬ None)
   refused-or-some = go (call space) refl
     where
-      some : ((place round : ℕ) → ¬ (call space ≡ refused number place round)) → ((place : ℕ) × (round : ℕ) × (call space ≡ refused number place round)) ⊎ (¬ None)
-      some n = inr (λ none. let (place, round, q) = r .exactly-when space .1 none in n place round q)
+      some : ¬ RefusedBy number (call space) → RefusedBy number (call space) ⊎ (¬ None)
+      some n = inr (λ none. n (r .exactly-when space .1 none))
 
-      go : (o : Outcome Sized) → call space ≡ o → ((place : ℕ) × (round : ℕ) × (call space ≡ refused number place round)) ⊎ (¬ None)
-      go (accepted s) e = some λ place round q. let z : _≡_ {A = ℕ} 0 1 = cc in omega arith
+      go : (o : Outcome Sized) → call space ≡ o → RefusedBy number (call space) ⊎ (¬ None)
+      go (accepted s) e = some λ (place, round, q). let z : _≡_ {A = ℕ} 0 1 = cc in omega arith
       go (refused c place round) e = by-number (ℕ-discrete c number)
         where
-          by-number : Dec (c ≡ number) → ((place : ℕ) × (round : ℕ) × (call space ≡ refused number place round)) ⊎ (¬ None)
+          by-number : Dec (c ≡ number) → RefusedBy number (call space) ⊎ (¬ None)
           by-number (yes h) = inl (place, round, e ∙ ap (λ (n : ℕ). refused n place round) h)
-          by-number (no h) = some λ p k q. h (cc)
+          by-number (no h) = some λ (p, k, q). h (cc)

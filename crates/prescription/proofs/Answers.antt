@@ -1,7 +1,7 @@
 -- How a call ends: populating's answer with 11 in place of 7, and the number that no set has.
 use Prim.Native.Nat.{ℕ, _≤_, _<_}
 use native.Mathlib.Omega.{arith}
-use mathlib.Core.Path.{_≡_, refl, sym, ap, _∙_}
+use mathlib.Core.Path.{_≡_, refl}
 use mathlib.Core.Bool.{Bool, true, false}
 use mathlib.Core.List.{List}
 use lib.Dec.{ltb}
@@ -12,7 +12,7 @@ use Rattle.orm.specs.Text.{tableLine}
 use Rattle.orm.specs.Outcome.{Outcome, refused, accepted, _>>=_, fitted, bufferAfter, Sized, written}
 use Rattle.orm.specs.Sets.{setCount}
 use Rattle.orm.specs.Calls.{diagramIn, sizesBy, settledInto}
-use Rattle.orm.specs.Prescribe.{setIn, prescribeCall}
+use Rattle.orm.specs.Prescribe.{prescribeCall}
 use Rattle.orm.specs.Meaning.{Between}
 use Rattle.orm.specs.Laws.Prescribe.{is-set, no-set}
 use Rattle.grammar.specs.declared.Fault.{Fault}
@@ -27,7 +27,7 @@ use Rattle.bounds.specs.declared.Settlement.{Settlement}
 use Rattle.bounds.specs.declared.Settlement.the-variants as settlements
 use Rattle.bounds.specs.declared.Start.the-variants.{Kept}
 use Rattle.populate.specs.Answer.{cellsOf, populated}
-use Rattle.prescription.specs.Answer.{prescriptionOf, Answered, keptAt, numbered}
+use Rattle.prescription.specs.Answer.{Answered, keptAt, numbered}
 use Rattle.prescription.specs.declared.Prescription.{Prescription}
 use Rattle.prescription.specs.declared.Prescription.the-variants.{Refused, NoSet, Impossible, TooShort, Accepted}
 

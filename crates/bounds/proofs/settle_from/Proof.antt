@@ -1,6 +1,6 @@
 -- `bounds::settle_from` meets its contract. The answer is that of the narrowed bounds.
 -- Assumes nothing.
-use Rattle.bounds.proofs.Narrowing.{starts-lower, narrowed-bounds, narrowed-scratch, narrowed-answered}
+use Rattle.bounds.proofs.Starting.{starts-lower, narrowed-bounds, narrowed-scratch, narrowed-answered}
 use borrow.Author.Needs.{needs}
 use Rattle.bounds.proofs.settle_from.Statement.{statement}
 use Rattle.bounds.proofs.settle_from.Tie as tie

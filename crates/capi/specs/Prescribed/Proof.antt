@@ -9,7 +9,7 @@ use lib.ListN.{length}
 use Rattle.orm.specs.Diagram.{Diagram}
 use Rattle.orm.specs.Text.{tableLine}
 use Rattle.orm.specs.Sets.{setCount}
-use Rattle.orm.specs.Outcome.{Outcome, refused, accepted, bufferAfter, written, Sized}
+use Rattle.orm.specs.Outcome.{Outcome, refused, accepted, bufferAfter, written}
 use Rattle.orm.specs.Calls.{diagramIn}
 use Rattle.orm.specs.Prescribe.{prescribeCall}
 use Rattle.orm.specs.Meaning.{Between}
@@ -22,7 +22,7 @@ use Rattle.populate.specs.Demand3.{TableOf}
 use Rattle.populate.specs.Tied.{table-accepted}
 use Rattle.capi.specs.Answers.{numbers}
 use Rattle.capi.specs.Accepted.{same-diagram}
-use Rattle.capi.specs.Ended.{Settled, HasPrescribed, RefusedWith}
+use Rattle.capi.specs.Ended.{Settled, HasPrescribed}
 use Rattle.capi.specs.Ended.Laws.{settled, settled-refused}
 use Rattle.capi.specs.Prescribed as told
 use Rattle.capi.specs.Prescribed.{SetOf, PrescribedTold}

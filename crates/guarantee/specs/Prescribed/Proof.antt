@@ -28,7 +28,7 @@ use Rattle.reading.specs.Laws.{table-accepted-iff}
 use Rattle.sound.specs.Laws.{valid-laws}
 use Rattle.guarantee.specs.Inside.{Fits, NoneFits, settled-greatest, some-settled}
 use Rattle.guarantee.specs.Ends.{settled-unsatisfiable, refuses-by, refuses-only, writes-made}
-use Rattle.guarantee.specs.Guarantee.{NoPopulation, Populated}
+use Rattle.guarantee.specs.Guarantee.{Populated}
 use Rattle.guarantee.specs.Proof.{fault-of-form}
 use Rattle.guarantee.specs.Prescribed.{Having, NoneHaving, lowerFor, upperFor, Produced, PrescribedIn, Prescribed}
 

@@ -1,9 +1,9 @@
--- `bounds::cap` meets its contract. The smaller of the two stands there.
+-- `bounds::narrowing::cap` meets its contract. The smaller of the two stands there.
 -- Assumes nothing.
-use Rattle.bounds.proofs.Narrowing.{capped-to, capped-not}
+use Rattle.bounds.proofs.Starting.{capped-to, capped-not}
 use borrow.Author.Needs.{needs}
-use Rattle.bounds.proofs.cap.Statement.{statement}
-use Rattle.bounds.proofs.cap.Tie as tie
+use Rattle.bounds.proofs.narrowing.cap.Statement.{statement}
+use Rattle.bounds.proofs.narrowing.cap.Tie as tie
 
 pub cap-spec : {M : Type 1} → statement M
 cap-spec =

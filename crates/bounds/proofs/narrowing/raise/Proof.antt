@@ -1,9 +1,9 @@
--- `bounds::raise` meets its contract. The larger of the two stands there.
+-- `bounds::narrowing::raise` meets its contract. The larger of the two stands there.
 -- Assumes nothing.
-use Rattle.bounds.proofs.Narrowing.{raised-to, raised-not}
+use Rattle.bounds.proofs.Starting.{raised-to, raised-not}
 use borrow.Author.Needs.{needs}
-use Rattle.bounds.proofs.raise.Statement.{statement}
-use Rattle.bounds.proofs.raise.Tie as tie
+use Rattle.bounds.proofs.narrowing.raise.Statement.{statement}
+use Rattle.bounds.proofs.narrowing.raise.Tie as tie
 
 pub raise-spec : {M : Type 1} → statement M
 raise-spec =

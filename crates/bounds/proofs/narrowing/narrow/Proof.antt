@@ -1,9 +1,9 @@
--- `bounds::narrow` meets its contract. One set's bounds, or none.
+-- `bounds::narrowing::narrow` meets its contract. One set's bounds, or none.
 -- Assumes nothing.
-use Rattle.bounds.proofs.Narrowing.{kept-among, narrowed-own, narrowed-kept}
+use Rattle.bounds.proofs.Starting.{kept-among, narrowed-own, narrowed-kept}
 use borrow.Author.Needs.{needs}
-use Rattle.bounds.proofs.narrow.Statement.{statement}
-use Rattle.bounds.proofs.narrow.Tie as tie
+use Rattle.bounds.proofs.narrowing.narrow.Statement.{statement}
+use Rattle.bounds.proofs.narrowing.narrow.Tie as tie
 
 pub narrow-spec : {M : Type 1} → statement M
 narrow-spec =

@@ -13,6 +13,7 @@ pub mod SubtypeRanges
 pub mod RoleLimits
 pub mod SingleLimits
 pub mod Prescribed
+pub mod Averages
 pub mod Several
 pub mod Broken
 pub mod Lines

@@ -9,5 +9,6 @@ pub mod Cells
 pub mod Bounds
 pub mod Rounds
 pub mod Prescribe
+pub mod Average
 pub mod SingleLimits
 pub mod Supertypes

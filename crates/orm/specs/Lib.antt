@@ -10,6 +10,7 @@ pub mod Populate
 pub mod Constraints
 pub mod Calls
 pub mod Prescribe
+pub mod Average
 pub mod SingleLimits
 pub mod LineReader
 pub mod Program

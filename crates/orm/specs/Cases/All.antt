@@ -18,6 +18,7 @@ use Rattle.orm.specs.Constraints
 use Rattle.orm.specs.Calls
 use Rattle.orm.specs.Prescribe
 use Rattle.orm.specs.SingleLimits
+use Rattle.orm.specs.Average
 use Rattle.orm.specs.LineReader
 use Rattle.orm.specs.Program
 
@@ -59,6 +60,7 @@ unfolding
     Calls.diagramIn Calls.sizesBy Calls.sizesOf Calls.populationIn Calls.readCall Calls.writeCall Calls.settledInto Calls.checkCall Calls.populateCall
     Calls.validateCall
     Prescribe.setIn Prescribe.raisedAt Prescribe.cappedAt Prescribe.prescribeCall
+    Average.groupsOfPlaced Average.placedGroups Average.groupNumbered Average.groupIn Average.floatQuotient Average.averageOf Average.averageCall
     SingleLimits.frontOf SingleLimits.numbered SingleLimits.startCall SingleLimits.lowerCall SingleLimits.surveyCall
     LineReader.lineLength LineReader.nextLine LineReader.positionAfter
     Program.predText Program.report Program.reported Program.output Program.program

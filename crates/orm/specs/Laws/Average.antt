@@ -1,0 +1,123 @@
+-- The group with a number, found in a walk over the predicates: each has the numbers behind its first group's set, as many as it has groups.
+use Prim.Native.Nat.{ℕ, suc, _+_, _≤_, _<_}
+use mathlib.Core.Path.{_≡_, refl, sym, ap, _∙_}
+use mathlib.Core.Option.{Option, none, some, Option·some-injective}
+use mathlib.Core.List.{List, [], _∷_, _++_, flatMap, List·Memᴰ·head as here, List·Memᴰ·tail as there, List·Memᴰ·not-nil, List·Memᴰ·append-cases}
+use mathlib.Core.Logic.{⊎-elim}
+use native.Mathlib.Omega.{arith}
+use native.Mathlib.Decide.{ℕ-discrete}
+use borrow.Author.Tests.{eq-eqb, ne-eqb}
+use lib.ListN.{length, length-append}
+use Rattle.counting.specs.Lists.{mapFrom}
+use Rattle.counting.specs.Laws.Index.{of-mapFrom, at-below}
+use Rattle.counting.specs.Terms.{_∈_}
+use Rattle.orm.specs.Diagram.{Frequency, Predicate, Diagram, allGroups}
+use Rattle.orm.specs.Sets.{Placed, placedFrom, placed, firstPred, firstRole, firstGroup, setCount}
+use Rattle.orm.specs.Outcome.{Outcome, refused, accepted}
+use Rattle.orm.specs.Average.{PlacedGroup, groupsOfPlaced, placedGroups, groupNumbered, groupIn}
+
+-- ---- one group, and the others
+
+module _ (number : ℕ) (g : PlacedGroup) (gs : List PlacedGroup) where
+  pub numbered-here : number ≡ suc (g .own) → groupNumbered number (g ∷ gs) ≡ some g
+  unfolding groupNumbered
+  numbered-here e = rw (eq-eqb number (suc (g .own)) e, groupNumbered) refl
+
+  pub numbered-there : ¬ (number ≡ suc (g .own)) → groupNumbered number (g ∷ gs) ≡ groupNumbered number gs
+  unfolding groupNumbered
+  numbered-there n = rw (ne-eqb number (suc (g .own)) n, groupNumbered) refl
+
+-- The group that is found has the number
+pub numbered-own : (number : ℕ) (gs : List PlacedGroup) {g : PlacedGroup} → groupNumbered number gs ≡ some g → number ≡ suc (g .own)
+unfolding groupNumbered
+numbered-own number [] {g} e = let z : _≡_ {A = ℕ} 0 1 = cc in absurd (omega arith)
+numbered-own number (h ∷ gs) {g} e = elim (ℕ-discrete number (suc (h .own))) [
+  | yes q ↦ let same : _≡_ {A = Option PlacedGroup} (some h) (some g) = cc (numbered-here number h gs q) in
+      q ∙ ap (λ (x : PlacedGroup). suc (x .own)) (Option·some-injective h g same)
+  | no n ↦ numbered-own number gs (sym (numbered-there number h gs n) ∙ e)
+]
+
+-- and is one of them
+pub numbered-in : (number : ℕ) (gs : List PlacedGroup) {g : PlacedGroup} → groupNumbered number gs ≡ some g → g ∈ gs
+unfolding groupNumbered
+numbered-in number [] {g} e = let z : _≡_ {A = ℕ} 0 1 = cc in absurd (omega arith)
+numbered-in number (h ∷ gs) {g} e = elim (ℕ-discrete number (suc (h .own))) [
+  | yes q ↦ let same : _≡_ {A = Option PlacedGroup} (some h) (some g) = cc (numbered-here number h gs q) in
+      here (sym (Option·some-injective h g same))
+  | no n ↦ there (numbered-in number gs (sym (numbered-there number h gs n) ∙ e))
+]
+
+-- ---- the groups of a predicate, whose set is r, and those behind
+
+module _ (r number : ℕ) (gs : List PlacedGroup) where
+  abbrev from : ℕ → List Frequency → List PlacedGroup
+  from q fs = mapFrom (λ (i : ℕ) (f : Frequency). record { own = i; predicate = r; frequency = f }) q fs
+
+  among-from : (q : ℕ) (fs : List Frequency) → q < number → number ≤ q + length fs
+      → (g : PlacedGroup) × (groupNumbered number (from q fs ++ gs) ≡ some g) × (g .predicate ≡ r)
+  unfolding mapFrom
+  among-from q [] a b = absurd (omega arith)
+  among-from q (f ∷ fs) a b = elim (ℕ-discrete number (suc q)) [
+    | yes e ↦ (record { own = q; predicate = r; frequency = f }, numbered-here number _ _ e, refl)
+    | no n ↦ let (g, e, p) = among-from (suc q) fs (omega arith) (omega arith) in (g, numbered-there number _ _ n ∙ e, p)
+  ]
+
+  above-from : (q : ℕ) (fs : List Frequency) → q + length fs < number → groupNumbered number (from q fs ++ gs) ≡ groupNumbered number gs
+  unfolding mapFrom
+  above-from q [] h = refl
+  above-from q (f ∷ fs) h = numbered-there number _ _ (λ e. omega arith) ∙ above-from (suc q) fs (omega arith)
+
+  below-from : (q : ℕ) (fs : List Frequency) → number ≤ q → groupNumbered number (from q fs ++ gs) ≡ groupNumbered number gs
+  unfolding mapFrom
+  below-from q [] h = refl
+  below-from q (f ∷ fs) h = numbered-there number _ _ (λ e. omega arith) ∙ below-from (suc q) fs (omega arith)
+
+module _ (number : ℕ) (x : Placed) (gs : List PlacedGroup) where
+  pub among-groups : x .groups < number → number ≤ x .groups + length (x .predicate .groups)
+      → (g : PlacedGroup) × (groupNumbered number (groupsOfPlaced x ++ gs) ≡ some g) × (g .predicate ≡ x .own)
+  unfolding groupsOfPlaced
+  among-groups a b = among-from (x .own) number gs (x .groups) (x .predicate .groups) a b
+
+  pub above-groups : x .groups + length (x .predicate .groups) < number
+      → groupNumbered number (groupsOfPlaced x ++ gs) ≡ groupNumbered number gs
+  unfolding groupsOfPlaced
+  above-groups h = above-from (x .own) number gs (x .groups) (x .predicate .groups) h
+
+-- No group has a number up to the first group's set
+pub below-all : (number r p q : ℕ) (ps : List Predicate) → number ≤ q → groupNumbered number (flatMap groupsOfPlaced (placedFrom r p q ps)) ≡ none
+unfolding placedFrom flatMap groupsOfPlaced groupNumbered
+below-all number r p q [] h = refl
+below-all number r p q (x ∷ ps) h =
+    below-from r number _ q (x .groups) h ∙ below-all number (suc r) (p + length (x .roles)) (q + length (x .groups)) ps (omega arith)
+
+-- ---- the sets of a group and of its predicate are among those of the diagram
+
+abbrev Below : ℕ → ℕ → PlacedGroup → Type 0
+Below r q g = (g .predicate < r) × (g .own < q)
+
+below-each : (r p q : ℕ) (ps : List Predicate) {g : PlacedGroup} → g ∈ flatMap groupsOfPlaced (placedFrom r p q ps)
+    → Below (r + length ps) (q + length (flatMap (λ (x : Predicate). x .groups) ps)) g
+unfolding placedFrom flatMap groupsOfPlaced
+below-each r p q [] m = absurd (List·Memᴰ·not-nil m)
+below-each r p q (x ∷ ps) {g} m =
+    let counts : length (x .groups ++ flatMap (λ (y : Predicate). y .groups) ps) ≡ length (x .groups) + length (flatMap (λ (y : Predicate). y .groups) ps) =
+    length-append (x .groups) _ in
+    ⊎-elim
+    (λ l. let (k, f, at, e) = of-mapFrom _ q (x .groups) l in rw e (omega arith, omega (arith, counts, at-below at)))
+    (λ l. let b = below-each (suc r) (p + length (x .roles)) (q + length (x .groups)) ps l in (omega (arith, b .0), omega (arith, counts, b .1)))
+    (List·Memᴰ·append-cases (groupsOfPlaced (record { predicate = x; own = r; roles = p; groups = q })) m)
+
+pub group-among : (d : Diagram) {g : PlacedGroup} → g ∈ placedGroups d → Below (setCount d) (setCount d) g
+unfolding placedGroups placed setCount firstGroup firstRole firstPred allGroups
+group-among d m = let b = below-each (firstPred d) (firstRole d) (firstGroup d) (d .preds) m in (omega (arith, b .0), omega (arith, b .1))
+
+-- ---- the group in a diagram, or none
+
+module _ (d : Diagram) (number : ℕ) where
+  pub is-group : {g : PlacedGroup} → groupNumbered number (placedGroups d) ≡ some g → groupIn d number ≡ accepted g
+  unfolding groupIn
+  is-group e = rw (e, groupIn) refl
+
+  pub no-group : groupNumbered number (placedGroups d) ≡ none → groupIn d number ≡ refused 10 number 0
+  unfolding groupIn
+  no-group e = rw (e, groupIn) refl

@@ -10,5 +10,6 @@ pub mod Sums
 pub mod Multiplicity
 pub mod Range
 pub mod Products
+pub mod Quotients
 pub mod Count
 pub mod Classes

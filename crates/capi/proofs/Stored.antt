@@ -1,9 +1,11 @@
 -- The numbers stored for each answer are those of its outcome, and of the call that it answers.
 use Prim.Native.Nat.{ℕ}
-use mathlib.Core.Path.{_≡_, ap, _∙_}
+use mathlib.Core.Path.{_≡_, refl, ap, _∙_}
 use mathlib.Core.Bool.{Bool, true, false}
 use mathlib.Core.List.{List, [], _∷_}
+use lib.Ieee.{Float}
 use Rattle.counting.specs.Totals.{bit}
+use Rattle.orm.specs.Average.{Average, whole, fraction}
 use Rattle.orm.specs.Constraints.{Answer, valid, breaks}
 use Rattle.orm.specs.Outcome.{Outcome, refused, accepted, Handed}
 use Rattle.orm.specs.SingleLimits.{Found}
@@ -13,11 +15,14 @@ use Rattle.bounds.specs.Answer.{settlementOf}
 use Rattle.bounds.specs.declared.Settlement.{Settlement}
 use Rattle.prescription.specs.Answer.{prescriptionOf}
 use Rattle.prescription.specs.declared.Prescription.{Prescription}
+use Rattle.averages.specs.Answer.{averageAnswerOf}
+use Rattle.averages.specs.declared.AverageAnswer.{AverageAnswer}
 use Rattle.validator.specs.Outcomes.{validateOf}
 use Rattle.validator.specs.declared.ValidateAnswer.{ValidateAnswer}
 use Rattle.propagation.specs.Answer.{propagationOf}
 use Rattle.propagation.specs.declared.Propagation.{Propagation}
-use Rattle.capi.specs.Answers.{numbers, roundless, foundNumbers, verdictNumbers}
+use Rattle.capi.specs.Answers.{numbers, roundless, foundNumbers, verdictNumbers, averageNumbers, floatAfter}
+use Rattle.capi.specs.Ended.{Divided}
 
 -- ---- a truth value as a number
 
@@ -95,3 +100,29 @@ module _ {a : List ℕ} where
 
   pub verdict-sent : (x y : Outcome Answer) → a ≡ verdictNumbers x → x ≡ y → a ≡ verdictNumbers y
   verdict-sent x y e q = e ∙ ap verdictNumbers q
+
+  -- ---- an average, and the float beside the numbers
+
+  module _ {x : Float} where
+    pub average-refused : {n p k number place round : ℕ} → a ≡ n ∷ p ∷ k ∷ 0 ∷ [] → n ≡ number → p ≡ place → k ≡ round
+        → Divided (refused number place round) a x x
+    unfolding averageNumbers floatAfter
+    average-refused e en ep ek = record { answer = cc; float = refl }
+
+    pub average-whole : {l times : ℕ} → a ≡ 0 ∷ 0 ∷ 0 ∷ l ∷ [] → l ≡ times → Divided (accepted (whole times)) a x x
+    unfolding averageNumbers floatAfter
+    average-whole e el = record { answer = cc; float = refl }
+
+    pub average-fraction : {times : Float} → a ≡ 0 ∷ 0 ∷ 1 ∷ 0 ∷ [] → Divided (accepted (fraction times)) a x times
+    unfolding averageNumbers floatAfter
+    average-fraction e = record { answer = e; float = refl }
+
+    module _ {y : Float} where
+      pub average-stored : {r s : AverageAnswer} → r ≡ s → Divided (averageAnswerOf s) a x y → Divided (averageAnswerOf r) a x y
+      average-stored q e = rw q e
+
+      pub average-sent : (o o′ : Outcome Average) → Divided o a x y → o ≡ o′ → a ≡ averageNumbers o′
+      average-sent o o′ d q = d .answer ∙ ap averageNumbers q
+
+      pub float-sent : (o o′ : Outcome Average) → Divided o a x y → o ≡ o′ → y ≡ floatAfter o′ x
+      float-sent o o′ d q = d .float ∙ ap (λ (p : Outcome Average). floatAfter p x) q

@@ -2,12 +2,16 @@
 use Prim.Native.Nat.{ℕ}
 use mathlib.Core.Path.{_≡_}
 use mathlib.Core.List.{List, [], _∷_, _++_}
+use lib.Ieee.{Float}
 use lib.ListN.{length, drop}
+use Rattle.orm.specs.Average.{Average, averageCall}
 use Rattle.orm.specs.Outcome.{Outcome, Sized, bufferAfter, lengthOf, written, handedBack}
 use Rattle.orm.specs.Calls.{validateCall}
 use Rattle.orm.specs.Prescribe.{prescribeCall}
 use Rattle.orm.specs.SingleLimits.{startCall, lowerCall, surveyCall, boundsOf, foundOf}
-use Rattle.capi.specs.Answers.{numbers, roundless, foundNumbers, verdictNumbers}
+use Rattle.orm.specs.Meaning.{Between}
+use Rattle.populate.specs.Demand3.{TableOf}
+use Rattle.capi.specs.Answers.{numbers, roundless, foundNumbers, verdictNumbers, averageNumbers, floatAfter}
 pub mod Laws
 
 -- Reading or writing that ends so; and check or populating
@@ -38,15 +42,31 @@ pub record HasLowered (t : List ℕ) (number : ℕ) (four before after : List �
 abbrev pub HasSurveyed : List ℕ → List ℕ → List ℕ → Type 0
 HasSurveyed t sizes four = four ≡ foundNumbers (surveyCall t sizes)
 
+-- The average use of a group; of the caller's float, `before` and `after`
+pub record Divided (o : Outcome Average) (four : List ℕ) (before after : Float) : Type 0 where
+  pub answer : four ≡ averageNumbers o
+  pub float : after ≡ floatAfter o before
+
+abbrev pub HasAveraged : List ℕ → ℕ → List ℕ → Float → Float → Type 0
+HasAveraged t number four before after = Divided (averageCall t number) four before after
+
 -- Accepted by reading or writing: the result stands at the front of the array
 pub record Gives (result four before after : List ℕ) : Type 0 where
   pub answer : four ≡ 0 ∷ 0 ∷ 0 ∷ length result ∷ []
   pub front : after ≡ result ++ drop (length result) before
 
--- Refused with this number at this line; the array is as it was
-pub record RefusedWith (number line : ℕ) (four before after : List ℕ) : Type 0 where
+-- Refused with this number at this line; what the call writes is as it was
+pub record RefusedWith {A : Type 0} (number line : ℕ) (four : List ℕ) (before after : A) : Type 0 where
   pub answer : four ≡ number ∷ line ∷ 0 ∷ 0 ∷ []
   pub kept : after ≡ before
 
 abbrev pub RefusedWith4 : ℕ → List ℕ → List ℕ → List ℕ → Type 0
 RefusedWith4 = RefusedWith 4
+
+-- A table with a fault of form is that of no diagram
+pub record Faulty {A : Type 0} (t four : List ℕ) (before after : A) : Type 0 where
+  pub none : ¬ TableOf t
+  pub fault : ℕ
+  pub line : ℕ
+  pub of-form : Between 1 fault 6
+  pub refused : RefusedWith fault line four before after

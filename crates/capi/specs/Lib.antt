@@ -8,3 +8,4 @@ pub mod SubtypeRanges
 pub mod RoleLimits
 pub mod Sequences
 pub mod Prescribed
+pub mod Averaged

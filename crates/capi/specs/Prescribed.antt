@@ -10,7 +10,7 @@ use Rattle.guarantee.specs.Settling.{EmptiedFrom}
 use Rattle.guarantee.specs.Prescribed.{NoneHaving, lowerFor, upperFor, Produced}
 use Rattle.populate.specs.Answer.{cellsOf}
 use Rattle.populate.specs.Demand3.{TableOf}
-use Rattle.capi.specs.Ended.{RefusedWith}
+use Rattle.capi.specs.Ended.{RefusedWith, Faulty}
 pub mod Proof
 
 -- A table of a diagram, and a number of one of its sets
@@ -49,14 +49,6 @@ pub record NoSet (t : List ℕ) (number : ℕ) (four before after : List ℕ) : 
   pub of : TableOf t
   pub none : ¬ Between 1 number (setCount (of .diagram))
   pub refused : RefusedWith 10 number four before after
-
--- A table with a fault of form is that of no diagram
-pub record Faulty (t four before after : List ℕ) : Type 0 where
-  pub none : ¬ TableOf t
-  pub fault : ℕ
-  pub line : ℕ
-  pub of-form : Between 1 fault 6
-  pub refused : RefusedWith fault line four before after
 
 -- One of these holds; the first of the four numbers tells which
 pub data PrescribedTold (t : List ℕ) (number wanted : ℕ) (four before after : List ℕ) : Type 0 where

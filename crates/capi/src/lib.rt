@@ -7,6 +7,7 @@ ghost use mathlib.Core.List.{[], _∷_};
 ghost use lib.ListN.{length};
 ghost use Rattle.orm.specs.Outcome.{lengthOf, bufferAfter, written, handedBack};
 ghost use Rattle.orm.specs.Calls.{readCall, checkCall, populateCall, validateCall, writeCall};
+ghost use Rattle.orm.specs.Average.{averageCall};
 ghost use Rattle.orm.specs.Prescribe.{prescribeCall};
 ghost use Rattle.orm.specs.SingleLimits.{startCall, lowerCall, surveyCall, boundsOf, foundOf};
 ghost use Rattle.counting.specs.Totals.{bit};
@@ -16,11 +17,14 @@ ghost use Rattle.bounds.specs.Answer.{settlementOf};
 ghost use Rattle.populate.specs.Answer.{cellsOf};
 ghost use Rattle.populate.specs.Demand3.{settledSizes};
 ghost use Rattle.prescription.specs.Answer.{prescriptionOf};
+ghost use Rattle.averages.specs.Answer.{averageAnswerOf};
 ghost use Rattle.validator.specs.Outcomes.{validateOf};
 ghost use Rattle.propagation.specs.Answer.{propagationOf};
-ghost use Rattle.capi.specs.Answers.{numbers, roundless, foundNumbers, verdictNumbers};
+ghost use Rattle.capi.specs.Answers.{numbers, roundless, foundNumbers, verdictNumbers, averageNumbers, floatAfter};
 ghost use Rattle.capi.specs.Told.{Told, ToldRead};
+ghost use Rattle.capi.specs.Ended.{Divided};
 ghost use Rattle.capi.specs.Prescribed.{PrescribedTold};
+ghost use Rattle.capi.specs.Averaged.{AverageTold};
 
 fn of_size(x: usize) -> u64
     ensures { λ r. ⌜ r ≡ x ⌝ }
@@ -114,6 +118,26 @@ fn store_prescription(answer: &mut [u64; 4], outcome: prescription::Prescription
         prescription::Prescription::TooShort { needed } => store(answer, 8, of_size(needed), 0, 0),
         prescription::Prescription::Accepted { length, rounds } => {
             store(answer, 0, 0, of_u32(rounds), of_size(length))
+        }
+    }
+}
+
+// For the average use of a group; one that is no whole number goes to `quotient`.
+fn store_average(answer: &mut [u64; 4], quotient: &mut f64, outcome: averages::AverageAnswer)
+    ensures { λ _. ⌜ Divided (averageAnswerOf outcome) (now (answer .exit)) (now (quotient .entry)) (now (quotient .exit)) ⌝ }
+{
+    match outcome {
+        averages::AverageAnswer::Refused { fault, line } => {
+            store(answer, number_of(fault), of_size(line), 0, 0)
+        }
+        averages::AverageAnswer::NoGroup { number } => store(answer, 10, of_u32(number), 0, 0),
+        averages::AverageAnswer::Unsatisfiable { set, round } => {
+            store(answer, 7, of_size(set), of_u32(round), 0)
+        }
+        averages::AverageAnswer::Whole { times } => store(answer, 0, 0, 0, of_u32(times)),
+        averages::AverageAnswer::Fraction { times } => {
+            *quotient = times;
+            store(answer, 0, 0, 1, 0)
         }
     }
 }
@@ -234,4 +258,21 @@ pub extern "C" fn legshorgan_prescribe(
 {
     let outcome = prescription::prescribe(table, set, wanted, cells);
     store_prescription(answer, outcome);
+}
+
+// How many rows there are for each combination of the group with this set number: a whole number in the
+// answer, or else a float in `quotient`.
+#[no_mangle]
+pub extern "C" fn legshorgan_average(
+    table: &[u32],
+    set: u32,
+    quotient: &mut f64,
+    answer: &mut [u64; 4],
+)
+    ensures { λ _. ⌜ now (answer .exit) ≡ averageNumbers (averageCall (now (table .entry)) set) ⌝ }
+    ensures { λ _. ⌜ now (quotient .exit) ≡ floatAfter (averageCall (now (table .entry)) set) (now (quotient .entry)) ⌝ }
+    ensures { λ _. ⌜ AverageTold (now (table .entry)) set (now (answer .exit)) (now (quotient .entry)) (now (quotient .exit)) ⌝ }
+{
+    let outcome = averages::average(table, set);
+    store_average(answer, quotient, outcome);
 }

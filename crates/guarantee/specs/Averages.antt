@@ -11,7 +11,7 @@ use mathlib.Core.Path.{_≡_}
 use mathlib.Core.Logic.{_↔_}
 use mathlib.Core.Bool.{false}
 use mathlib.Core.List.{List, map}
-use lib.Ieee.{nan, binary64, round}
+use lib.Ieee.{Float, nan, binary64, round}
 use lib.ListN.{length}
 use Rattle.counting.specs.Lists.{upFrom}
 use Rattle.counting.specs.Terms.{_∈_}
@@ -21,15 +21,22 @@ use Rattle.orm.specs.Sets.{firstGroup}
 use Rattle.orm.specs.Populate.{size}
 use Rattle.orm.specs.Outcome.{refused, accepted}
 use Rattle.orm.specs.Calls.{diagramIn}
-use Rattle.orm.specs.Average.{PlacedGroup, placedGroups, Average, whole, fraction, averageOf, averageCall}
+use Rattle.orm.specs.Average.{PlacedGroup, placedGroups, Average, whole, fraction, floatQuotient, averageOf, averageCall}
 use Rattle.guarantee.specs.Guarantee.{NoPopulation, EmptiedAt, Populated, FaultOfForm}
 pub mod Proof
 
--- What an average says of r and q: 'a whole number where it divides evenly'; 'otherwise' the float nearest to the fraction r / q, of two the even one:
--- neither size is rounded, and the quotient once
+-- 'otherwise the 64-bit float from one division of the two sizes (IEEE 754, nearest even)'
+pub record Rounded (x : Float) (r q : ℕ) : Type 0 where
+  pub unevenly : (n : ℕ) → ¬ (r ≡ n * q)
+  pub divided : x ≡ floatQuotient r q
+  -- it is the float nearest to the fraction r / q, of two the even one: neither size is rounded, and the quotient once
+  pub nearest : x ≡ round binary64 false r q
+  pub number : ¬ (x ≡ nan)
+
+-- 'r divided by q': 'a whole number where it divides evenly'
 abbrev pub Says : Average → ℕ → ℕ → Type 0
 Says (whole n) r q = r ≡ n * q
-Says (fraction x) r q = ((n : ℕ) → ¬ (r ≡ n * q)) × (x ≡ round binary64 false r q) × (¬ (x ≡ nan))
+Says (fraction x) r q = Rounded x r q
 
 -- The average use of a group
 pub record Averaged (t : List ℕ) (d : Diagram) (g : PlacedGroup) : Type 0 where

@@ -123,7 +123,12 @@ says-of r q p h k = go (eqb (r % q) 0) refl
 
     go : (b : Bool) → eqb (r % q) 0 ≡ b → Says (elim b [ true ↦ whole (r / q) | false ↦ fraction (floatQuotient r q) ]) r q
     go true e = omega (arith, eqb-true (r % q) 0 e, mod-add-div' r q)
-    go false e = (λ n w. eqb-false (r % q) 0 e (rw w (mul-mod-left n q)), once, λ z. rounded-number binary64 false r q (sym once ∙ z))
+    go false e = record {
+      unevenly = λ n w. eqb-false (r % q) 0 e (rw w (mul-mod-left n q));
+      divided = refl;
+      nearest = once;
+      number = λ z. rounded-number binary64 false r q (sym once ∙ z);
+    }
 
 -- ---- the call
 

@@ -1,7 +1,7 @@
 -- The group with a number, found in a walk over the predicates: each has the numbers behind its first group's set, as many as it has groups.
 use Prim.Native.Nat.{ℕ, suc, _+_, _≤_, _<_}
 use mathlib.Core.Path.{_≡_, refl, sym, ap, _∙_}
-use mathlib.Core.Option.{Option, none, some, Option·some-injective}
+use mathlib.Core.Option.{Option, none, some, Option·some-injective, Option·none-ne-some}
 use mathlib.Core.List.{List, [], _∷_, _++_, flatMap, List·Memᴰ·head as here, List·Memᴰ·tail as there, List·Memᴰ·not-nil, List·Memᴰ·append-cases}
 use mathlib.Core.Logic.{⊎-elim}
 use native.Mathlib.Omega.{arith}
@@ -45,6 +45,16 @@ numbered-in number (h ∷ gs) {g} e = elim (ℕ-discrete number (suc (h .own))) 
   | yes q ↦ let same : _≡_ {A = Option PlacedGroup} (some h) (some g) = cc (numbered-here number h gs q) in
       here (sym (Option·some-injective h g same))
   | no n ↦ there (numbered-in number gs (sym (numbered-there number h gs n) ∙ e))
+]
+
+-- Where none is found, none has it
+pub numbered-none : (number : ℕ) (gs : List PlacedGroup) → groupNumbered number gs ≡ none → (g : PlacedGroup) → g ∈ gs → ¬ (number ≡ suc (g .own))
+unfolding groupNumbered
+numbered-none number (h ∷ gs) e g (here q) p =
+    absurd (Option·none-ne-some h (sym e ∙ numbered-here number h gs (p ∙ ap (λ (x : PlacedGroup). suc (x .own)) q)))
+numbered-none number (h ∷ gs) e g (there m) p = elim (ℕ-discrete number (suc (h .own))) [
+  | yes q ↦ Option·none-ne-some h (sym e ∙ numbered-here number h gs q)
+  | no n ↦ numbered-none number gs (sym (numbered-there number h gs n) ∙ e) g m p
 ]
 
 -- ---- the groups of a predicate, whose set is r, and those behind

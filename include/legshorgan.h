@@ -5,7 +5,7 @@
  * of the caller's array, and nothing behind it. The contracts in crates/capi/src/lib.rt say exactly what stands in the answer and in
  * that array afterwards.
  *
- * Each pointer is to an array of the length given beside it, the answer to four numbers; it is aligned, and not null even where the
+ * Each pointer is to an array of the length given beside it, the answer to four numbers, the quotient to one; it is aligned, and not null even where the
  * length is 0. What a call writes overlaps no other array of the same call.
  */
 #ifndef LEGSHORGAN_H
@@ -54,6 +54,17 @@ void legshorgan_populate(const uint32_t *table, size_t table_length, uint32_t *c
  */
 void legshorgan_prescribe(const uint32_t *table, size_t table_length, uint32_t set, uint32_t wanted, uint32_t *cells,
                           size_t cells_length, uint64_t answer[4]);
+
+/* The average use of a group: the settled size of its predicate divided by its own settled size. The group is asked for by its
+ * set number (from 1: types, predicates, roles, groups, in file order). Refuses with 1 to 6; 10 where no group has the number; then
+ * 7 where a set is emptied. Where it divides evenly the whole number stands in the answer; else *quotient is the double nearest to
+ * the quotient, from one division of the two sizes (IEEE 754, ties to even). In every other case *quotient stays as it was.
+ *   answer[0]  0: accepted; else the number of the refusal, 1 to 6, 10 or 7
+ *   answer[1]  its place: the line from 1 (1 to 6), the number that no group has (10), the emptied set from 1 (7); 0 if accepted
+ *   answer[2]  0 if the quotient is a whole number, 1 if it is not and stands in *quotient; the round of a refusal 7; else 0
+ *   answer[3]  the whole number; else 0
+ */
+void legshorgan_average(const uint32_t *table, size_t table_length, uint32_t set, double *quotient, uint64_t answer[4]);
 
 /* Writes the text of a table's diagram, at most LEGSHORGAN_MOST_TEXT bytes. Refuses with 1 to 6, then 8. */
 void legshorgan_write(const uint32_t *table, size_t table_length, uint8_t *text, size_t text_length, uint64_t answer[4]);

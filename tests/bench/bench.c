@@ -25,6 +25,7 @@ void reference_validate(const uint32_t *, size_t, const uint32_t *, size_t, uint
 void reference_lower(const uint32_t *, size_t, uint32_t, uint32_t *, size_t, uint64_t[4]);
 void reference_survey(const uint32_t *, size_t, const uint32_t *, size_t, uint64_t[4]);
 void reference_prescribe(const uint32_t *, size_t, uint32_t, uint32_t, uint32_t *, size_t, uint64_t[4]);
+void reference_average(const uint32_t *, size_t, uint32_t, double *, uint64_t[4]);
 
 struct version {
     const char *name;
@@ -36,22 +37,24 @@ struct version {
     void (*lower)(const uint32_t *, size_t, uint32_t, uint32_t *, size_t, uint64_t[4]);
     void (*survey)(const uint32_t *, size_t, const uint32_t *, size_t, uint64_t[4]);
     void (*prescribe)(const uint32_t *, size_t, uint32_t, uint32_t, uint32_t *, size_t, uint64_t[4]);
+    void (*average)(const uint32_t *, size_t, uint32_t, double *, uint64_t[4]);
 };
 
 enum { LIBRARY, BASELINE, REFERENCE, VERSIONS };
 
 static const struct version versions[VERSIONS] = {
     {"library", legshorgan_read, legshorgan_check, legshorgan_populate, legshorgan_write, legshorgan_validate,
-     legshorgan_lower, legshorgan_survey, legshorgan_prescribe},
+     legshorgan_lower, legshorgan_survey, legshorgan_prescribe, legshorgan_average},
     {"c", baseline_read, baseline_check, baseline_populate, baseline_write, baseline_validate,
-     baseline_lower, baseline_survey, baseline_prescribe},
+     baseline_lower, baseline_survey, baseline_prescribe, baseline_average},
     {"rust", reference_read, reference_check, reference_populate, reference_write, reference_validate,
-     reference_lower, reference_survey, reference_prescribe},
+     reference_lower, reference_survey, reference_prescribe, reference_average},
 };
 
-enum call { READ, CHECK, POPULATE, WRITE, VALIDATE, LOWER, SURVEY, PRESCRIBE };
+enum call { READ, CHECK, POPULATE, WRITE, VALIDATE, LOWER, SURVEY, PRESCRIBE, AVERAGE };
 
-static const char *const call_names[] = {"read", "check", "populate", "write", "validate", "lower", "survey", "prescribe"};
+static const char *const call_names[] = {"read",  "check",  "populate",  "write",  "validate",
+                                         "lower", "survey", "prescribe", "average"};
 
 /* What is counted of a row. */
 enum unit { BYTES, ROUNDS, CELLS, SETS, LIMITS };
@@ -74,6 +77,7 @@ static const struct row rows[] = {
     {"limited", WRITE, BYTES},
     {"sample", LOWER, SETS},   {"sample", SURVEY, LIMITS}, {"full", LOWER, SETS},       {"full", SURVEY, LIMITS},
     {"sample", PRESCRIBE, CELLS}, {"full", PRESCRIBE, CELLS}, {"slow", PRESCRIBE, ROUNDS},
+    {"sample", AVERAGE, ROUNDS}, {"full", AVERAGE, ROUNDS}, {"limited", AVERAGE, ROUNDS}, {"slow", AVERAGE, ROUNDS},
 };
 
 enum { ROW_COUNT = sizeof rows / sizeof *rows };
@@ -82,13 +86,15 @@ static uint8_t text[8192];
 static size_t text_length, table_length, cells_length;
 static uint32_t table[LEGSHORGAN_MOST_TABLE], cells[LEGSHORGAN_MOST_CELLS];
 static uint32_t bounds[LEGSHORGAN_MOST_SIZES], last_limit;
-static uint32_t wanted_set, wanted;
+static uint32_t wanted_set, wanted, last_group;
+static uint64_t check_rounds;
 
 /* The result of a call of each version. */
 static struct result {
     uint64_t answer[4];
     uint32_t table[LEGSHORGAN_MOST_TABLE], sizes[LEGSHORGAN_MOST_SIZES], cells[LEGSHORGAN_MOST_CELLS];
     uint8_t text[LEGSHORGAN_MOST_TEXT];
+    double quotient;
 } results[VERSIONS];
 
 static void fail(const char *what, const char *name) {
@@ -144,8 +150,19 @@ static void load_wanted(void) {
     wanted = answer[0] == 0 ? sizes[wanted_set - 1] / 2 : 1;
 }
 
+/* The last set, a group, and the rounds that the check makes, which the average does not hand back. */
+static void load_group(void) {
+    uint64_t answer[4];
+    uint32_t sizes[LEGSHORGAN_MOST_SIZES];
+    baseline_start(table, table_length, sizes, LEGSHORGAN_MOST_SIZES, answer);
+    last_group = (uint32_t)answer[3];
+    baseline_check(table, table_length, sizes, LEGSHORGAN_MOST_SIZES, answer);
+    check_rounds = answer[2];
+}
+
 static void load_row(const char *folder, const struct row *row) {
     load(folder, row->diagram);
+    if (row->call == AVERAGE) load_group();
     if (row->call == PRESCRIBE) load_wanted();
     if (row->call == VALIDATE) load_cells();
     if (is_single(row->call)) load_bounds();
@@ -167,6 +184,7 @@ static void make_call(const struct version *v, enum call call, struct result *r)
     case LOWER: v->lower(table, table_length, last_limit, r->sizes, LEGSHORGAN_MOST_SIZES, r->answer); break;
     case SURVEY: v->survey(table, table_length, r->sizes, LEGSHORGAN_MOST_SIZES, r->answer); break;
     case PRESCRIBE: v->prescribe(table, table_length, wanted_set, wanted, r->cells, LEGSHORGAN_MOST_CELLS, r->answer); break;
+    case AVERAGE: v->average(table, table_length, last_group, &r->quotient, r->answer); break;
     }
 }
 
@@ -179,6 +197,7 @@ static const void *written_by(enum call call, const struct result *r, size_t *by
     case POPULATE:
     case PRESCRIBE: *bytes = sizeof r->cells; return r->cells;
     case WRITE: *bytes = sizeof r->text; return r->text;
+    case AVERAGE: *bytes = sizeof r->quotient; return &r->quotient;
     default: *bytes = 0; return r->answer;
     }
 }
@@ -200,7 +219,7 @@ static bool agree(enum call call) {
 static uint64_t units_of(const struct row *row) {
     switch (row->unit) {
     case BYTES: return text_length;
-    case ROUNDS: return results[LIBRARY].answer[2];
+    case ROUNDS: return row->call == AVERAGE ? check_rounds : results[LIBRARY].answer[2];
     default: return row->call == VALIDATE ? cells_length : results[LIBRARY].answer[3];
     }
 }

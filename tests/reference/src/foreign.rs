@@ -74,6 +74,13 @@ extern "C" {
         cells_length: usize,
         answer: *mut u64,
     );
+    fn legshorgan_average(
+        table: *const u32,
+        table_length: usize,
+        set: u32,
+        quotient: *mut f64,
+        answer: *mut u64,
+    );
 }
 
 /// A wrapper around one call with an input and lent space.
@@ -133,6 +140,23 @@ pub fn prescribe(table: &[u32], set: u32, wanted: u32, cells: &mut [u32]) -> Ans
             wanted,
             cells.as_mut_ptr(),
             cells.len(),
+            answer.as_mut_ptr(),
+        );
+    }
+    answer
+}
+
+/// Takes the number of a set beside its input, and a float to write the quotient
+/// to.
+pub fn average(table: &[u32], set: u32, quotient: &mut f64) -> Answer {
+    let mut answer = [UNANSWERED; 4];
+    // SAFETY: the table is given with its length, the quotient is one float.
+    unsafe {
+        legshorgan_average(
+            table.as_ptr(),
+            table.len(),
+            set,
+            quotient,
             answer.as_mut_ptr(),
         );
     }

@@ -1,7 +1,8 @@
-//! A second solution of document 01, amended by S-1, S-2, S-5, S-8 and S-13
-//! of document 02, written from the documents alone, to compare others with.
+//! A second solution of document 01, amended by S-1, S-2, S-5, S-8, S-13 and
+//! S-14 of document 02, written from the documents alone, to compare others with.
 //! Quoted words in comments are from document 01 where no other is named.
 
+mod average;
 mod constraints;
 mod diagram;
 mod fill;
@@ -15,6 +16,7 @@ pub mod random;
 #[cfg(feature = "compare")]
 pub mod foreign;
 
+pub use average::{average, Average};
 pub use constraints::{found, validate, Verdict};
 pub use diagram::{form, role_width, Diagram, Group, Predicate, Role, Type};
 pub use fill::{populate, prescribe};

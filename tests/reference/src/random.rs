@@ -1,6 +1,6 @@
 //! Seeded random inputs: diagrams, damaged texts, tables and cells, ceilings
-//! and numbers of limits, numbers of sets and wanted sizes, and lengths of lent
-//! space.
+//! and numbers of limits, numbers of sets and of groups, wanted sizes, and lengths
+//! of lent space.
 
 use crate::{floors, limits, role_width, round, settle, starting};
 use crate::{Diagram, Group, Limit, Predicate, Role, Type, Value};
@@ -1443,6 +1443,96 @@ pub fn settling_diagram(random: &mut Random) -> Diagram {
         }
     }
     diagram(random)
+}
+
+/// Combinations of groups that may be used more often: FMAX is raised in most
+/// groups and MAX in predicates, and a predicate whose roles are all in one group
+/// gets another role, since it has no more rows than combinations without.
+fn use_more(random: &mut Random, d: &mut Diagram) {
+    let types = d.types.len() as u32;
+    let mut left = 96 - d.count_roles();
+    for pred in &mut d.preds {
+        let alone = pred.groups.len() == 1 && pred.roles.iter().all(|role| role.group == 1);
+        if alone && pred.roles.len() < 6 && left > 0 {
+            pred.roles.push(Role {
+                kind: random.between(1, types),
+                mand: 0,
+                group: 0,
+                rmin: 1,
+                rmax: 4096,
+            });
+            left -= 1;
+        }
+        if random.chance(80) {
+            pred.max = random.between(pred.max, 4096);
+        }
+        for group in &mut pred.groups {
+            let most = random.pick(&[group.fmax, 3, 6, 12, 100, 4096]);
+            group.fmax = random.between(group.fmax, most.max(group.fmax));
+        }
+    }
+}
+
+/// Fewer rows than settle in most predicates with groups: any number of them, not
+/// below MIN, so that they divide evenly or not.
+fn fewer_rows(random: &mut Random, d: &mut Diagram) {
+    let Ok((_, sizes)) = settle(d) else { return };
+    for (pred, size) in d.preds.iter_mut().zip(&sizes[d.types.len()..]) {
+        if !pred.groups.is_empty() && random.chance(75) {
+            let low = random.pick(&[pred.min, *size / 2, *size * 3 / 4]);
+            pred.max = random.between(low.max(pred.min), *size);
+        }
+    }
+}
+
+/// A diagram that mostly has groups and a population, in which combinations are
+/// often used more than once.
+pub fn used_diagram(random: &mut Random) -> Diagram {
+    let mut d = settling_diagram(random);
+    if d.count_groups() == 0 && random.chance(80) {
+        d = settling_diagram(random);
+    }
+    if random.chance(85) {
+        use_more(random, &mut d);
+        fewer_rows(random, &mut d);
+    }
+    d
+}
+
+/// The groups, as sets from 1, whose predicate's size is no multiple of theirs.
+fn uneven(d: &Diagram) -> Vec<u32> {
+    let Ok((_, sizes)) = settle(d) else {
+        return Vec::new();
+    };
+    let mut groups = d.count_sets() - d.count_groups()..;
+    let mut uneven = Vec::new();
+    for (pred, r) in d.preds.iter().zip(&sizes[d.types.len()..]) {
+        let own = groups.by_ref().take(pred.groups.len());
+        let odd = own.filter(|group| r % sizes[*group] != 0);
+        uneven.extend(odd.map(|group| group as u32 + 1));
+    }
+    uneven
+}
+
+/// A set's number, from 1, mostly that of a group: often of one that does not
+/// divide evenly, of any, the first or the last. Or no group's: that of another
+/// set, often the last one before the groups, 0, just past the last, a group's
+/// with one bit more, any number, the largest.
+pub fn group_number(random: &mut Random, d: &Diagram) -> u32 {
+    let (all, groups) = (d.count_sets() as u32, d.count_groups() as u32);
+    let (others, uneven) = (all - groups, uneven(d));
+    match random.below(60) {
+        0..28 if !uneven.is_empty() => random.pick(&uneven),
+        0..48 if groups > 0 => random.between(others + 1, all),
+        48..50 if groups > 0 => random.pick(&[others + 1, all]),
+        50 => others,
+        51 => 0,
+        52 => all + 1,
+        53 => random.between(others, all) | 1 << random.between(8, 31),
+        54 => other_number(random, all),
+        55 => u32::MAX,
+        _ => random.between(1, others),
+    }
 }
 
 /// A size wanted of the set of this index: about that which it settles at, half

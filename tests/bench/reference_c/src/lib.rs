@@ -1,6 +1,6 @@
 //! The calls of the Rust reference for a program in C, with the arguments and answers of include/legshorgan.h.
 
-use reference::{Refusal, Settled};
+use reference::{Average, Refusal, Settled};
 use std::slice::{from_raw_parts, from_raw_parts_mut};
 
 fn refused(r: Refusal) -> [u64; 4] {
@@ -174,4 +174,24 @@ pub unsafe extern "C" fn reference_prescribe(
         from_raw_parts_mut(cells, cells_length),
     );
     *answer = settled(reference::prescribe(table, set, wanted, cells));
+}
+
+/// # Safety
+/// The pointers are as include/legshorgan.h says.
+#[no_mangle]
+pub unsafe extern "C" fn reference_average(
+    table: *const u32,
+    table_length: usize,
+    set: u32,
+    quotient: *mut f64,
+    answer: *mut [u64; 4],
+) {
+    *answer = match reference::average(from_raw_parts(table, table_length), set) {
+        Ok(Average::Whole(number)) => [0, 0, 0, u64::from(number)],
+        Ok(Average::Float(float)) => {
+            *quotient = float;
+            [0, 0, 1, 0]
+        }
+        Err(refusal) => refused(refusal),
+    };
 }

@@ -13,13 +13,14 @@
 //!
 //! An input is one call with its lent space, or a sequence of single limits from
 //! the start to the end. The answers and every lent number or byte afterwards
-//! must agree. Input i depends on the seed and i alone. Each fifth input is of a
-//! prescribed size, and of the others each fourth of the calls for single limits.
+//! must agree. Input i depends on the seed and i alone. Each sixth input is of an
+//! average use, of the others each fifth of a prescribed size, and of those left
+//! each fourth of the calls for single limits.
 
 use reference::foreign::{self, Answer};
 use reference::random::{self, Random};
 use reference::{check, floors, form, found, limits, settle, starting};
-use reference::{Diagram, Lowered, Refusal, Settled, Survey, Verdict};
+use reference::{Average, Diagram, Lowered, Refusal, Settled, Survey, Verdict};
 use std::cmp::Ordering;
 use std::collections::BTreeMap;
 use std::fmt::Debug;
@@ -60,6 +61,19 @@ fn lowered(result: Result<Lowered, Refusal>) -> Answer {
 fn surveyed(result: Result<Survey, Refusal>) -> Answer {
     let answer = |said: Survey| [0, 0, u64::from(said.lowers), said.limits as u64];
     result.map_or_else(refused, answer)
+}
+
+/// "0 if the quotient is a whole number, 1 if it is not and stands in *quotient";
+/// "the whole number". The quotient is lent as its 64 bits.
+fn averaged(result: Result<Average, Refusal>, quotient: &mut [u64]) -> Answer {
+    match result {
+        Ok(Average::Whole(number)) => [0, 0, 0, u64::from(number)],
+        Ok(Average::Float(float)) => {
+            quotient[0] = float.to_bits();
+            [0, 0, 1, 0]
+        }
+        Err(refusal) => refused(refusal),
+    }
 }
 
 /// Text where it is text, numbers elsewhere.
@@ -454,6 +468,67 @@ impl Compare {
         self.count("prescribe", &outcome);
     }
 
+    /// A table and the number of a set, mostly of a group.
+    fn asked(&mut self, random: &mut Random) -> (Vec<u32>, u32) {
+        let table = match random.chance(92) {
+            true => random::used_diagram(random).table(),
+            false => random::damaged_table(random),
+        };
+        let set = match form(&table) {
+            Ok(d) => random::group_number(random, &d),
+            Err(_) => random.between(0, 30),
+        };
+        (table, set)
+    }
+
+    /// Any 64 bits stand in the quotient before the call but those of a NaN, which
+    /// need not stay the same where a float is handed on.
+    fn average(&mut self, random: &mut Random) {
+        let (table, set) = self.asked(random);
+        self.place += &format!(", set {set}");
+        let mut before = random.bits();
+        while f64::from_bits(before).is_nan() {
+            before = random.bits();
+        }
+        let ours = |table: &[u32], lent: &mut [u64]| averaged(reference::average(table, set), lent);
+        let theirs = |table: &[u32], lent: &mut [u64]| {
+            let mut quotient = f64::from_bits(lent[0]);
+            let answer = foreign::average(table, set, &mut quotient);
+            lent[0] = quotient.to_bits();
+            answer
+        };
+        let (answer, lent) = self.lent_call("average", &table, vec![before], ours, theirs);
+        match answer {
+            [0, _, 0, 1] => self.count("average", "accepted, whole, 1"),
+            [0, _, 0, _] => self.count("average", "accepted, whole, above 1"),
+            [0, ..] => {
+                let float = f64::from_bits(lent[0]);
+                let single = f64::from(float as f32) == float;
+                let bits = if single { "24 bits" } else { "53 bits" };
+                self.count("average", &format!("accepted, fraction, {bits}"));
+            }
+            [10, ..] => self.no_group(&table, set),
+            _ => (),
+        }
+    }
+
+    /// What a number is that no group has, and whether a set is emptied too.
+    fn no_group(&mut self, table: &[u32], set: u32) {
+        let d = form(table).expect("a table without fault");
+        let sets = d.count_sets() as u32;
+        let what = match set {
+            0 => "0",
+            u32::MAX => "the largest number",
+            _ if set == sets + 1 => "just past the last set",
+            _ if set > sets => "past the last set",
+            _ => kind_of(&d, set),
+        };
+        self.count("average", &format!("refused 10, {what}"));
+        if settle(&d).is_err() {
+            self.count("average", "refused 10, with an emptied set");
+        }
+    }
+
     /// One of the calls for single limits.
     fn limit_input(&mut self, random: &mut Random) {
         match random.below(20) {
@@ -517,13 +592,16 @@ fn main() {
     let start = Instant::now();
     for i in 0..count {
         compare.place = format!("seed {seed}, input {i}");
-        // Each fifth is of a prescribed size, of the rest each fourth of single
-        // limits; the others count without them.
-        let rest = i / 5 * 4 + i % 5;
-        match (i % 5, rest % 4) {
-            (4, _) => compare.prescribe(&mut nth(seed ^ 1 << 63, i / 5)),
-            (_, 3) => compare.limit_input(&mut nth(!seed, rest / 4)),
-            (_, own) => compare.input(&mut nth(seed, rest / 4 * 3 + own)),
+        // Each sixth is of an average use, of the rest each fifth of a prescribed
+        // size, of those left each fourth of single limits; each kind counts its
+        // own alone.
+        let rest = i / 6 * 5 + i % 6;
+        let left = rest / 5 * 4 + rest % 5;
+        match (i % 6, rest % 5, left % 4) {
+            (5, ..) => compare.average(&mut nth(seed ^ 1 << 62, i / 6)),
+            (_, 4, _) => compare.prescribe(&mut nth(seed ^ 1 << 63, rest / 5)),
+            (_, _, 3) => compare.limit_input(&mut nth(!seed, left / 4)),
+            (_, _, own) => compare.input(&mut nth(seed, left / 4 * 3 + own)),
         }
     }
     let rate = count as f64 / start.elapsed().as_secs_f64();

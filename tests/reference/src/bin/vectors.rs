@@ -1,9 +1,11 @@
 //! Compares the reference with expected outcomes: `vectors PATH ..`. A path is a
 //! folder with the files `texts.jsonl`, `tables.txt`, `cells.txt` and `slow.txt`,
-//! and with `s13.txt` and `s1.txt` if they are there; or one of these files alone.
+//! and with `s13.txt`, `s1.txt` and `s14.txt` if they are there; or one of these
+//! files alone.
 
 use reference::random::Random;
-use reference::{check, form, lower, prescribe, program, start, survey, validate, Refusal};
+use reference::{average, check, form, lower, prescribe, program, start, survey, validate};
+use reference::{Average, Refusal};
 use std::path::Path;
 
 /// The counts over one file; the first differences are printed.
@@ -175,6 +177,34 @@ fn s1_case(tally: &mut Tally, place: &str, line: &str) -> Option<()> {
     Some(())
 }
 
+/// Whether X of an answer `float=X bits=H` "reads back as the same 64-bit float",
+/// whose bits are H; true of any other answer.
+fn reads_back(answer: &str) -> Option<bool> {
+    let Some(float) = answer.strip_prefix("float=") else {
+        return Some(true);
+    };
+    let (decimal, bits) = float.split_once(" bits=")?;
+    let bits = u64::from_str_radix(bits, 16).ok()?;
+    Some(decimal.parse::<f64>().ok()?.to_bits() == bits)
+}
+
+/// "`whole=N`, or `float=X bits=H`: X is the shortest decimal", as it is written
+/// here too.
+fn s14_case(tally: &mut Tally, place: &str, line: &str) -> Option<()> {
+    let (input, expected) = line.split_once(" -> ")?;
+    let (table, set) = (numbers(input, "table")?, number(input, "set")?);
+    let found = match average(&table, set) {
+        Ok(Average::Whole(number)) => format!("whole={number}"),
+        Ok(Average::Float(x)) => format!("float={x} bits={:016x}", x.to_bits()),
+        Err(refusal) => refused(refusal),
+    };
+    if !reads_back(expected)? {
+        return None;
+    }
+    tally.case(place, expected, &found);
+    Some(())
+}
+
 /// A whole file as one case, with the outcome that its README gives.
 fn slow(path: &Path) -> std::io::Result<usize> {
     let mut tally = Tally::default();
@@ -213,6 +243,7 @@ fn file(path: &Path) -> std::io::Result<usize> {
         Some(name @ "cells.txt") => lines(path, name, cells_case),
         Some(name @ "s13.txt") => lines(path, name, s13_case),
         Some(name @ "s1.txt") => lines(path, name, s1_case),
+        Some(name @ "s14.txt") => lines(path, name, s14_case),
         Some("slow.txt") => slow(path),
         _ => Err(std::io::Error::other("no file of cases has this name")),
     }
@@ -231,7 +262,7 @@ fn main() -> std::io::Result<()> {
         for name in ["texts.jsonl", "tables.txt", "cells.txt", "slow.txt"] {
             differences += file(&path.join(name))?;
         }
-        for path in ["s13.txt", "s1.txt"].map(|name| path.join(name)) {
+        for path in ["s13.txt", "s1.txt", "s14.txt"].map(|name| path.join(name)) {
             if path.exists() {
                 differences += file(&path)?;
             }

@@ -5,8 +5,8 @@
  * of the caller's array, and nothing behind it. The contracts in crates/capi/src/lib.rt say exactly what stands in the answer and in
  * that array afterwards.
  *
- * Each pointer is to an array of the length given beside it, the answer to four numbers, the quotient to one; it is aligned, and not null even where the
- * length is 0. What a call writes overlaps no other array of the same call.
+ * Each pointer is to an array of the length given beside it, the answer to four numbers, the quotient to one; it is aligned, and not
+ * null even where the length is 0. What a call writes overlaps no other array of the same call.
  */
 #ifndef LEGSHORGAN_H
 #define LEGSHORGAN_H

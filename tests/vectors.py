@@ -1,18 +1,20 @@
 #!/usr/bin/env python3
-"""Makes data/ and stdout of the crates vectors_texts, vectors_tables, vectors_cells, vectors_sequences and vectors_prescribed.
+"""Makes data/ and stdout of the crates vectors_texts, vectors_tables, vectors_cells, vectors_sequences, vectors_prescribed
+and vectors_averages.
 
-    python3 tests/vectors.py VECTORS SEQUENCES PRESCRIBED CRATES
+    python3 tests/vectors.py VECTORS SEQUENCES PRESCRIBED AVERAGES CRATES
 
 VECTORS is the folder of cases with outcomes by other hands: texts.jsonl, tables.txt, cells.txt and slow.txt, with its
 outcome in README.md. SEQUENCES is the file of those for limits in any sequence, s13.txt, PRESCRIBED that of those for a
-set with just so many, s1.txt. CRATES is the folder of the crates. Each data file starts with the number of cases;
-crates/cases says how a case is written. What is expected comes from these files alone: no program of this repository is
-run.
+set with just so many, s1.txt, AVERAGES that of those for the average use of a group, s14.txt. CRATES is the folder of the
+crates. Each data file starts with the number of cases; crates/cases says how a case is written. What is expected comes
+from these files alone: no program of this repository is run.
 """
 
 import json
 import pathlib
 import re
+import struct
 import sys
 
 
@@ -95,10 +97,26 @@ def prescribed(path):
     return [numbers(x["table"]) + numbers(f"{x['set']},{x['wanted']},{x['space']}") for x in given], answers
 
 
+def bits(answer):
+    """The bits of a float alone; its decimal must be the shortest that reads back as these."""
+    if not answer.startswith("float="):
+        return answer
+    decimal, hexadecimal = re.fullmatch(r"float=(.*);bits=([0-9a-f]{16});\n", answer).groups()
+    x = struct.unpack(">d", bytes.fromhex(hexadecimal))[0]
+    if repr(x) != decimal:
+        raise ValueError(answer)
+    return f"bits={hexadecimal};\n"
+
+
+def averages(path):
+    given, answers = asked(path)
+    return [numbers(x["table"]) + numbers(x["set"]) for x in given], [bits(x) for x in answers]
+
+
 def main():
-    vectors, limits, sizes, crates = map(pathlib.Path, sys.argv[1:])
+    vectors, limits, sizes, uses, crates = map(pathlib.Path, sys.argv[1:])
     made = {"texts": texts(vectors), "tables": tables(vectors), "cells": cells(vectors)}
-    made |= {"sequences": sequences(limits), "prescribed": prescribed(sizes)}
+    made |= {"sequences": sequences(limits), "prescribed": prescribed(sizes), "averages": averages(uses)}
     for name, (data, expected) in made.items():
         crate = crates / f"vectors_{name}"
         (crate / "data").mkdir(parents=True, exist_ok=True)

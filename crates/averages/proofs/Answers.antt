@@ -1,21 +1,20 @@
 -- How a call ends: the quotient of two sizes, the settled sizes of a valid table, the number of a group or of none, and any table.
-use Prim.Native.Nat.{ℕ, suc, _+_, _*_, _-_, _%_, _/_, _≤_, _<_}
+use Prim.Native.Nat.{ℕ, suc, _-_, _%_, _/_, _≤_, _<_}
 use native.Mathlib.Omega.{arith}
 use borrow.Author.Tests.{eq-eqb, ne-eqb}
-use mathlib.Core.Path.{_≡_, refl, sym, ap, _∙_}
+use mathlib.Core.Path.{_≡_, refl, sym, _∙_}
 use mathlib.Core.Logic.{⊎-elim}
 use mathlib.Core.Option.{Option, none, some, Option·some-injective, Option·none-ne-some, Option·some-ne-none}
-use mathlib.Core.List.{List, [], _∷_, _++_}
+use mathlib.Core.List.{List, [], _∷_}
 use lib.IntN.{pos}
 use lib.Ieee.{binary64, div, ofInt}
 use lib.ListN.{length, getD, drop, take, List·getD-append}
 use types.Run.{OneOf}
 use denote.Enum.Declared.{tagOf}
 use Rattle.fixpoint.specs.Limits.{fixpoint}
-use Rattle.orm.specs.Diagram.{Diagram}
 use Rattle.orm.specs.Text.{tableLine}
 use Rattle.orm.specs.Sets.{setCount, verdict}
-use Rattle.orm.specs.Outcome.{refused, accepted, _>>=_, bufferAfter}
+use Rattle.orm.specs.Outcome.{accepted, bufferAfter}
 use Rattle.orm.specs.Calls.{diagramIn, sizesBy, sizesOf}
 use Rattle.orm.specs.Average.{PlacedGroup, placedGroups, groupNumbered, floatQuotient, averageOf, averageCall}
 use Rattle.orm.specs.Laws.Bounds.{upper-few, upper-sets}
@@ -28,8 +27,7 @@ use Rattle.widening.specs.Laws.Accepts.{accepted-refused, accepted-as}
 use Rattle.widening.specs.declared.Acceptance.{Acceptance}
 use Rattle.widening.specs.declared.Acceptance.the-variants as acceptances
 use Rattle.limits.specs.Prepared.{mostSets, ValidTotals}
-use Rattle.bounds.specs.Answer.{Answered as Ended, checked, Settled}
-use Rattle.bounds.specs.Start.{Starts}
+use Rattle.bounds.specs.Answer.{Answered as Ended, checked}
 use Rattle.bounds.specs.Laws.Starts.{starts-own}
 use Rattle.bounds.specs.Laws.Ends.{Ends, emptied, settled, ends}
 use Rattle.bounds.specs.Laws.Sizes.{sizes-all, sizes-positive}

@@ -1,10 +1,10 @@
 -- The walk to the predicate whose group has a number: the groups of the predicates passed have lower ones.
 use Prim.Native.Nat.{ℕ, _+_, _-_, _≤_, _<_}
 use native.Mathlib.Omega.{arith}
-use mathlib.Core.Path.{_≡_, refl, sym, ap, _∙_}
-use mathlib.Core.Option.{Option, none, some}
+use mathlib.Core.Path.{_≡_, sym, ap, _∙_}
+use mathlib.Core.Option.{Option, some}
 use mathlib.Core.List.{List, _++_, flatMap}
-use lib.ListN.{length, getD, drop}
+use lib.ListN.{length, drop}
 use Rattle.orm.specs.Sets.{Placed, placed}
 use Rattle.orm.specs.Average.{PlacedGroup, groupsOfPlaced, placedGroups, groupNumbered}
 use Rattle.orm.specs.Laws.Average.{among-groups, above-groups, below-all}

@@ -1,5 +1,5 @@
-// The average use of a group: how many rows of its predicate there are for each of its combinations, both
-// as settled. A group is asked for by the number of its set, from 1.
+// The average use of a group: how many rows of its predicate there are on average for each of its
+// combinations, both as settled. A group is asked for by the number of its set, from 1.
 mod owner;
 
 use crate::owner::Owner;
@@ -99,7 +99,8 @@ fn average_table(table: &[u32], number: u32, wide: &mut [u32]) -> AverageAnswer
     }
 }
 
-// How many rows there are for each combination of the group of a table's diagram with this number.
+// How many rows there are on average for each combination of the group with this number, of a table's
+// diagram.
 pub fn average(table: &[u32], number: u32) -> AverageAnswer
     ensures { λ a. ⌜ averageAnswerOf a ≡ averageCall (now (table .entry)) number ⌝ }
 {

@@ -260,8 +260,8 @@ pub extern "C" fn legshorgan_prescribe(
     store_prescription(answer, outcome);
 }
 
-// How many rows there are for each combination of the group with this set number: a whole number in the
-// answer, or else a float in `quotient`.
+// How many rows there are on average for each combination of the group with this set number: a whole number
+// in the answer, or else a float in `quotient`.
 #[no_mangle]
 pub extern "C" fn legshorgan_average(
     table: &[u32],

@@ -1,5 +1,5 @@
--- The average use of a group (document 02, S-14): how many rows of its predicate there are for each of its combinations. The refusals stand in their
--- order.
+-- The average use of a group (document 02, S-14): how many rows of its predicate there are on average for each of its combinations. The refusals
+-- stand in their order.
 use Prim.Native.Nat.{ℕ, suc, _/_, _%_}
 use mathlib.Core.Bool.{true, false}
 use mathlib.Core.Option.{Option, none, some}
@@ -47,7 +47,7 @@ pub data Average : Type 0 where
 unfoldable pub floatQuotient : ℕ → ℕ → Float
 floatQuotient r q = div binary64 (ofInt binary64 (pos r)) (ofInt binary64 (pos q))
 
--- 'r divided by q'
+-- 'r divided by q'; settled sizes are at least 1
 unfoldable pub averageOf : ℕ → ℕ → Average
 averageOf r q = elim (eqb (r % q) 0) [ true ↦ whole (r / q) | false ↦ fraction (floatQuotient r q) ]
 

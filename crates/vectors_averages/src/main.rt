@@ -43,7 +43,12 @@ fn push_outcome(out: &mut [u8], answer: AverageAnswer) -> usize {
         AverageAnswer::Refused { fault, line } => {
             command::push_refusal(out, grammar::number_of(fault), line, 0)
         }
-        AverageAnswer::NoGroup { number } => command::push_refusal(out, 10, table::index(number), 0),
+        AverageAnswer::NoGroup { number } => command::push_refusal(
+            out,
+            10,
+            table::index(number),
+            0,
+        ),
         AverageAnswer::Unsatisfiable { set, round } => {
             command::push_refusal(out, 7, set, table::index(round))
         }

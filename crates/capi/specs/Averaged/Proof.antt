@@ -3,25 +3,23 @@ use Prim.Native.Nat.{ℕ, suc}
 use native.Mathlib.Decide.{ℕ-discrete}
 use native.Mathlib.Omega.{arith}
 use mathlib.Core.Path.{_≡_, refl, sym, ap, subst, _∙_}
-use mathlib.Core.Logic.{_↔_}
+use mathlib.Core.Logic.{_↔_, ⊎-elim}
 use mathlib.Core.Option.{Option, none, some}
 use mathlib.Core.List.{List, [], _∷_}
 use lib.Ieee.{Float}
 use Rattle.counting.specs.Terms.{_∈_}
 use Rattle.orm.specs.Diagram.{Diagram}
-use Rattle.orm.specs.Text.{tableLine}
 use Rattle.orm.specs.Outcome.{Outcome, refused, accepted}
-use Rattle.orm.specs.Calls.{diagramIn}
 use Rattle.orm.specs.Average.{PlacedGroup, placedGroups, groupNumbered, Average, whole, fraction, averageOf, averageCall}
 use Rattle.orm.specs.Laws.Average.{numbered-own, numbered-in, numbered-none}
 use Rattle.guarantee.specs.Guarantee.{NoPopulation, Populated}
-use Rattle.guarantee.specs.Proof.{guarantee}
 use Rattle.guarantee.specs.Averages.{Says, Averaged, AverageIn}
 use Rattle.guarantee.specs.Averages.Proof.{averages}
 use Rattle.populate.specs.Demand3.{TableOf}
 use Rattle.populate.specs.Tied.{table-accepted}
 use Rattle.capi.specs.Answers.{averageNumbers, floatAfter}
 use Rattle.capi.specs.Accepted.{same-diagram}
+use Rattle.capi.specs.Ended.Laws.{table-or-fault}
 use Rattle.capi.specs.Ended.{Divided, HasAveraged, RefusedWith}
 use Rattle.capi.specs.Averaged as told
 use Rattle.capi.specs.Averaged.{GroupOf, AverageTold}
@@ -100,23 +98,9 @@ module _ (t : List ℕ) (number : ℕ) {four : List ℕ} {before after : Float} 
           (record { of = x; none = no-one; refused = refused-with (averages .other-numbers t (x .diagram) (table-accepted x) number no-one) })
 
   pub average-told : AverageTold t number four before after
-  average-told = go (diagramIn tableLine t) refl
-    where
-      go : (o : Outcome Diagram) → diagramIn tableLine t ≡ o → AverageTold t number four before after
-      go (accepted d) e =
-          let (same, form) = guarantee .accepted-tables t d .0 e in
-          of-table (record { diagram = d; same-table = same; wellFormed = form })
-      go (refused c place round) e =
-          let no-one : (d : Diagram) → ¬ (diagramIn tableLine t ≡ accepted d) = λ d q. let z : _≡_ {A = ℕ} 0 1 = cc in omega arith in
-          let f = averages .other-tables t no-one number in
-          told.faulty
-          (record {
-            none = λ x. no-one (x .diagram) (table-accepted x);
-            fault = f .number;
-            line = f .place;
-            of-form = f .of-form;
-            refused = refused-with (f .refuses 0);
-          })
+  average-told =
+      ⊎-elim of-table told.faulty
+      (table-or-fault (λ space. averageCall t number) 0 (λ no-one. averages .other-tables t no-one number) (λ fault line e. refused-with e))
 
 abbrev pub Seven : List ℕ → Type 0
 Seven four = (set : ℕ) × (round : ℕ) × (four ≡ 7 ∷ set ∷ round ∷ 0 ∷ [])

@@ -2,6 +2,7 @@
 use Prim.Native.Nat.{ℕ, suc, _≤_}
 use native.Mathlib.Omega.{arith}
 use mathlib.Core.Path.{_≡_, refl, ap, subst, _∙_}
+use mathlib.Core.Logic.{_⊎_, inl, inr}
 use mathlib.Core.Bool.{Bool, true, false}
 use mathlib.Core.List.{List, [], _∷_}
 use borrow.Author.Tests.{le-ltb}
@@ -11,14 +12,17 @@ use Rattle.orm.specs.Diagram.{Diagram}
 use Rattle.orm.specs.Population.{Population}
 use Rattle.orm.specs.Constraints.{Answer, valid, breaks, answer}
 use Rattle.orm.specs.Outcome.{Outcome, refused, accepted, Sized, _>>=_, fitted, bufferAfter, written}
-use Rattle.orm.specs.Calls.{populationIn, validateCall}
+use Rattle.orm.specs.Text.{tableLine}
+use Rattle.orm.specs.Calls.{diagramIn, populationIn, validateCall}
 use Rattle.orm.specs.Meaning.{ValidPopulation}
 use Rattle.orm.specs.Laws.Named.{breaks-from-1}
 use Rattle.orm.specs.Laws.Cells.{population-in-iff, validate-iff}
+use Rattle.guarantee.specs.Guarantee.{FaultOfForm}
+use Rattle.guarantee.specs.Proof.{guarantee}
 use Rattle.populate.specs.Demand3.{TableOf}
 use Rattle.populate.specs.Tied.{table-accepted}
 use Rattle.capi.specs.Answers.{numbers, verdictNumbers}
-use Rattle.capi.specs.Ended.{Converted, Settled, HasValidated, Gives, RefusedWith}
+use Rattle.capi.specs.Ended.{Converted, Settled, HasValidated, Gives, RefusedWith, Faulty}
 
 -- ---- reading, writing, check and populating
 
@@ -62,6 +66,29 @@ module _ {four before after : List ℕ} where
 -- A refusal of the reading stands
 pub after-reading : {A B : Type 0} {o : Outcome A} (f : A → Outcome B) {number line : ℕ} → o ≡ refused number line 0 → (o >>= f) ≡ refused number line 0
 after-reading f e = ap (_>>= f) e
+
+-- A table is that of a diagram; or it has a fault of form, and the call tells so
+pub table-or-fault : {A B : Type 0} {t four : List ℕ} {before after : B} (call : ℕ → Outcome A) (space : ℕ)
+    → (((d : Diagram) → ¬ (diagramIn tableLine t ≡ accepted d)) → FaultOfForm call)
+    → ((number line : ℕ) → call space ≡ refused number line 0 → RefusedWith number line four before after)
+    → TableOf t ⊎ Faulty t four before after
+table-or-fault {t = t} {four = four} {before = before} {after = after} call space faults told = go (diagramIn tableLine t) refl
+  where
+    go : (o : Outcome Diagram) → diagramIn tableLine t ≡ o → TableOf t ⊎ Faulty t four before after
+    go (accepted d) e =
+        let (same, form) = guarantee .accepted-tables t d .0 e in
+        inl (record { diagram = d; same-table = same; wellFormed = form })
+    go (refused c place round) e =
+        let none : (d : Diagram) → ¬ (diagramIn tableLine t ≡ accepted d) = λ d q. let z : _≡_ {A = ℕ} 0 1 = cc in omega arith in
+        let f = faults none in
+        inr
+        (record {
+          none = λ x. none (x .diagram) (table-accepted x);
+          fault = f .number;
+          line = f .place;
+          of-form = f .of-form;
+          refused = told (f .number) (f .place) (f .refuses space);
+        })
 
 -- ---- validating
 

@@ -2,19 +2,16 @@
 use Prim.Native.Nat.{ℕ, _≤_}
 use native.Mathlib.Decide.{decLe}
 use native.Mathlib.Omega.{arith}
-use mathlib.Core.Path.{_≡_, refl, subst}
+use mathlib.Core.Path.{_≡_, subst}
 use mathlib.Core.Logic.{_↔_, ⊎-elim}
 use mathlib.Core.List.{List, [], _∷_}
 use lib.ListN.{length}
 use Rattle.orm.specs.Diagram.{Diagram}
-use Rattle.orm.specs.Text.{tableLine}
 use Rattle.orm.specs.Sets.{setCount}
-use Rattle.orm.specs.Outcome.{Outcome, refused, accepted, bufferAfter, written}
-use Rattle.orm.specs.Calls.{diagramIn}
+use Rattle.orm.specs.Outcome.{refused, accepted, bufferAfter, written}
 use Rattle.orm.specs.Prescribe.{prescribeCall}
 use Rattle.orm.specs.Meaning.{Between}
 use Rattle.guarantee.specs.Ends.{refused-or-some}
-use Rattle.guarantee.specs.Proof.{guarantee}
 use Rattle.guarantee.specs.Prescribed.{NoneHaving, Produced, PrescribedIn}
 use Rattle.guarantee.specs.Prescribed.Proof.{prescribed}
 use Rattle.populate.specs.Answer.{cellsOf}
@@ -23,7 +20,7 @@ use Rattle.populate.specs.Tied.{table-accepted}
 use Rattle.capi.specs.Answers.{numbers}
 use Rattle.capi.specs.Accepted.{same-diagram}
 use Rattle.capi.specs.Ended.{Settled, HasPrescribed}
-use Rattle.capi.specs.Ended.Laws.{settled, settled-refused}
+use Rattle.capi.specs.Ended.Laws.{settled, settled-refused, table-or-fault}
 use Rattle.capi.specs.Prescribed as told
 use Rattle.capi.specs.Prescribed.{SetOf, PrescribedTold}
 
@@ -92,23 +89,9 @@ module _ (t : List ℕ) (number wanted : ℕ) {four before after : List ℕ} (ha
       go (no a) b = none (λ h. a (h .0))
 
   pub prescribed-told : PrescribedTold t number wanted four before after
-  prescribed-told = go (diagramIn tableLine t) refl
-    where
-      go : (o : Outcome Diagram) → diagramIn tableLine t ≡ o → PrescribedTold t number wanted four before after
-      go (accepted d) e =
-          let (same, form) = guarantee .accepted-tables t d .0 e in
-          of-table (record { diagram = d; same-table = same; wellFormed = form })
-      go (refused c place round) e =
-          let none : (d : Diagram) → ¬ (diagramIn tableLine t ≡ accepted d) = λ d q. let z : _≡_ {A = ℕ} 0 1 = cc in omega arith in
-          let f = prescribed .other-tables t none number wanted in
-          told.faulty
-          (record {
-            none = λ x. none (x .diagram) (table-accepted x);
-            fault = f .number;
-            line = f .place;
-            of-form = f .of-form;
-            refused = settled-refused (f .refuses (length before)) has;
-          })
+  prescribed-told =
+      ⊎-elim of-table told.faulty
+      (table-or-fault (prescribeCall t number wanted) (length before) (λ none. prescribed .other-tables t none number wanted) (λ fault line e. settled-refused e has))
 
 abbrev pub Eleven : List ℕ → Type 0
 Eleven four = (set : ℕ) × (round : ℕ) × (four ≡ 11 ∷ set ∷ round ∷ 0 ∷ [])

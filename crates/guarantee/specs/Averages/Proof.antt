@@ -1,7 +1,6 @@
 -- The proof of S-14: the sizes that the rounds end with respect the limits of every group.
 use Prim.Native.Nat.{ℕ, suc, _+_, _*_, _/_, _%_, _≤_}
 use mathlib.Core.Path.{_≡_, refl, sym, ap, ap₂, _∙_}
-use mathlib.Core.Logic.{_↔_}
 use mathlib.Core.Bool.{Bool, true, false}
 use mathlib.Core.Option.{none, some}
 use mathlib.Core.List.{List, [], _∷_, _++_, map, flatMap, map-append, Memᴰ·map, List·Memᴰ·head as here, List·Memᴰ·tail as there}
@@ -14,7 +13,6 @@ use lib.ListN.{length}
 use Rattle.counting.specs.Lists.{upFrom, mapFrom}
 use Rattle.counting.specs.Terms.{_∈_, NoRepeats}
 use Rattle.counting.specs.Laws.Index.{At, of-mapFrom, each-from-at}
-use Rattle.counting.specs.Laws.Maps.{map-flatMap}
 use Rattle.counting.specs.Laws.Members.{each-getD, of-flatMap}
 use Rattle.counting.specs.Laws.Quotients.{rounds-once, rounded-number}
 use Rattle.counting.specs.Laws.Range.{upFrom-no-repeats}

@@ -13,7 +13,7 @@ use Rattle.counting.specs.Laws.Index.{of-mapFrom, at-below}
 use Rattle.counting.specs.Terms.{_∈_}
 use Rattle.orm.specs.Diagram.{Frequency, Predicate, Diagram, allGroups}
 use Rattle.orm.specs.Sets.{Placed, placedFrom, placed, firstPred, firstRole, firstGroup, setCount}
-use Rattle.orm.specs.Outcome.{Outcome, refused, accepted}
+use Rattle.orm.specs.Outcome.{refused, accepted}
 use Rattle.orm.specs.Average.{PlacedGroup, groupsOfPlaced, placedGroups, groupNumbered, groupIn}
 
 -- ---- one group, and the others

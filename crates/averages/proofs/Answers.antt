@@ -19,7 +19,7 @@ use Rattle.orm.specs.Calls.{diagramIn, sizesBy, sizesOf}
 use Rattle.orm.specs.Average.{PlacedGroup, placedGroups, groupNumbered, floatQuotient, averageOf, averageCall}
 use Rattle.orm.specs.Laws.Bounds.{upper-few, upper-sets}
 use Rattle.orm.specs.Laws.Rounds.{own-bounds}
-use Rattle.orm.specs.Laws.Average.{numbered-own, numbered-in, group-among, is-group, no-group}
+use Rattle.orm.specs.Laws.Average.{numbered-one, group-among, is-group, no-group}
 use Rattle.grammar.specs.declared.Fault.{Fault}
 use Rattle.table.specs.Positions.{diagramOf}
 use Rattle.widening.specs.Answer.{acceptanceOf, described, widened}
@@ -129,10 +129,10 @@ module _ (t : List ℕ) (number : ℕ) {w : Owner} (h : ownerOf w ≡ predicateO
             record { group = g; is = e; of-predicate = sym (Option·some-injective own (g .predicate) z) }
 
     among : (found .group .predicate < setCount (diagramOf t)) × (found .group .own < setCount (diagramOf t))
-    among = group-among (diagramOf t) (numbered-in number (placedGroups (diagramOf t)) (found .is))
+    among = group-among (diagramOf t) (numbered-one number (placedGroups (diagramOf t)) (found .is) .0)
 
     numbers : number ≡ suc (found .group .own)
-    numbers = numbered-own number (placedGroups (diagramOf t)) (found .is)
+    numbers = numbered-one number (placedGroups (diagramOf t)) (found .is) .1
 
     pub number-some : {x : ℕ} → x ≡ number → 1 ≤ x
     number-some e = omega (arith, numbers)

@@ -7,7 +7,7 @@ use mathlib.Core.List.{List, _++_, flatMap}
 use lib.ListN.{length, drop}
 use Rattle.orm.specs.Sets.{Placed, placed}
 use Rattle.orm.specs.Average.{PlacedGroup, groupsOfPlaced, placedGroups, groupNumbered}
-use Rattle.orm.specs.Laws.Average.{among-groups, above-groups, below-all}
+use Rattle.orm.specs.Laws.Average.{among-groups, past-groups, below-all}
 use Rattle.table.specs.Positions.{predCount, diagramOf}
 use Rattle.table.specs.Cursors.{placedAt, nextCursor, firstCursor, placedLeft}
 use Rattle.table.specs.Laws.Cursors.{placed-start, placed-none, placed-more}
@@ -58,4 +58,4 @@ module _ (t : List ℕ) (number : ℕ) {x : Cursor} where
           ap some (sym p) ∙ ap predicateOf (sym (here ∙ f))
 
       pub search-more : y .groups < number → Searching t number y (n - 1)
-      search-more l = record { ahead = here ∙ above-groups number (placedAt t x) rest (omega (arith, last)); past = l }
+      search-more l = record { ahead = here ∙ past-groups number (placedAt t x) rest (λ b. omega (arith, last, b .1)); past = l }

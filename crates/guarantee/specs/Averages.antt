@@ -6,7 +6,7 @@
 --     accepted diagram of both kinds. A group is asked for by its set number; a number of no group is 10, after 6, its place that number; then 7.
 --
 -- It holds of every table and every number, with no assumption. r is the size of the group's own predicate and q that of the group.
-use Prim.Native.Nat.{ℕ, suc, _*_, _≤_}
+use Prim.Native.Nat.{ℕ, suc, _+_, _*_, _≤_}
 use mathlib.Core.Path.{_≡_}
 use mathlib.Core.Logic.{_↔_}
 use mathlib.Core.Bool.{false}
@@ -15,15 +15,25 @@ use lib.Ieee.{Float, nan, binary64, round}
 use lib.ListN.{length}
 use Rattle.counting.specs.Lists.{upFrom}
 use Rattle.counting.specs.Terms.{_∈_}
+use Rattle.counting.specs.Laws.Index.{At}
 use Rattle.orm.specs.Diagram.{Diagram, allGroups}
 use Rattle.orm.specs.Text.{tableLine}
-use Rattle.orm.specs.Sets.{firstGroup}
+use Rattle.orm.specs.Sets.{Placed, placed, groupSet, firstGroup}
 use Rattle.orm.specs.Populate.{size}
 use Rattle.orm.specs.Outcome.{refused, accepted}
 use Rattle.orm.specs.Calls.{diagramIn}
 use Rattle.orm.specs.Average.{PlacedGroup, placedGroups, Average, whole, fraction, floatQuotient, averageOf, averageCall}
 use Rattle.guarantee.specs.Guarantee.{NoPopulation, EmptiedAt, Populated, FaultOfForm}
 pub mod Proof
+
+-- A group and its own predicate: the group stands at this place among those of the predicate, and both have the sets that the limits have for them
+pub record OwnPredicate (d : Diagram) (g : PlacedGroup) : Type 0 where
+  pub of : Placed
+  pub among : of ∈ placed d
+  pub place : ℕ
+  pub same-group : At (g .frequency) (of .predicate .groups) place
+  pub same-set : g .own ≡ groupSet of (1 + place)
+  pub same-predicate : g .predicate ≡ of .own
 
 -- 'otherwise the 64-bit float from one division of the two sizes (IEEE 754, nearest even)'
 pub record Rounded (x : Float) (r q : ℕ) : Type 0 where
@@ -68,6 +78,8 @@ pub record Averages : Type 0 where
   -- 'A group is asked for by its set number': the groups are the last sets, in file order, with their frequencies
   pub numbers : (d : Diagram) → map (λ (g : PlacedGroup). g .own) (placedGroups d) ≡ upFrom (firstGroup d) (length (allGroups d))
   pub frequencies : (d : Diagram) → map (λ (g : PlacedGroup). g .frequency) (placedGroups d) ≡ allGroups d
+  -- r is the size of the group's own predicate
+  pub own-predicates : (d : Diagram) (g : PlacedGroup) → g ∈ placedGroups d → OwnPredicate d g
   -- 'a number of no group is 10, after 6, its place that number', also where the diagram has no population
   pub other-numbers : (t : List ℕ) (d : Diagram) → diagramIn tableLine t ≡ accepted d
       → (number : ℕ) → ((g : PlacedGroup) → g ∈ placedGroups d → ¬ (number ≡ suc (g .own))) → averageCall t number ≡ refused 10 number 0

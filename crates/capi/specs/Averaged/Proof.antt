@@ -11,7 +11,7 @@ use Rattle.counting.specs.Terms.{_∈_}
 use Rattle.orm.specs.Diagram.{Diagram}
 use Rattle.orm.specs.Outcome.{Outcome, refused, accepted}
 use Rattle.orm.specs.Average.{PlacedGroup, placedGroups, groupNumbered, Average, whole, fraction, averageOf, averageCall}
-use Rattle.orm.specs.Laws.Average.{numbered-own, numbered-in, numbered-none}
+use Rattle.orm.specs.Laws.Average.{numbered-one, numbered-none}
 use Rattle.guarantee.specs.Guarantee.{NoPopulation, Populated}
 use Rattle.guarantee.specs.Averages.{Says, Averaged, AverageIn}
 use Rattle.guarantee.specs.Averages.Proof.{averages}
@@ -90,8 +90,8 @@ module _ (t : List ℕ) (number : ℕ) {four : List ℕ} {before after : Float} 
     where
       go : (o : Option PlacedGroup) → groupNumbered number (placedGroups (x .diagram)) ≡ o → AverageTold t number four before after
       go (some g) e =
-          let among = numbered-in number (placedGroups (x .diagram)) e in
-          of-group (record { table = x; group = g; among = among; numbered = numbered-own number (placedGroups (x .diagram)) e })
+          let (among, numbered) = numbered-one number (placedGroups (x .diagram)) e in
+          of-group (record { table = x; group = g; among = among; numbered = numbered })
       go none e =
           let no-one = numbered-none number (placedGroups (x .diagram)) e in
           told.no-group

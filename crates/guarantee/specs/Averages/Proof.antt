@@ -12,14 +12,14 @@ use lib.Ieee.{binary64, round}
 use lib.ListN.{length}
 use Rattle.counting.specs.Lists.{upFrom, mapFrom}
 use Rattle.counting.specs.Terms.{_∈_, NoRepeats}
-use Rattle.counting.specs.Laws.Index.{At, of-mapFrom, each-from-at}
+use Rattle.counting.specs.Laws.Index.{of-mapFrom, each-from-at}
 use Rattle.counting.specs.Laws.Members.{each-getD, of-flatMap}
 use Rattle.counting.specs.Laws.Quotients.{rounds-once, rounded-number}
 use Rattle.counting.specs.Laws.Range.{upFrom-no-repeats}
 use Rattle.fixpoint.specs.Limits.{Verdict, unsatisfiable, fixpoint}
 use Rattle.orm.specs.Diagram.{Frequency, Predicate, Diagram, allGroups}
 use Rattle.orm.specs.Text.{tableLine}
-use Rattle.orm.specs.Sets.{Placed, placed, placedFrom, groupSet, firstGroup, upper, verdict, verdictFrom}
+use Rattle.orm.specs.Sets.{Placed, placed, placedFrom, firstGroup, upper, verdict, verdictFrom}
 use Rattle.orm.specs.Populate.{size}
 use Rattle.orm.specs.Outcome.{Outcome, refused, accepted, _>>=_, Sized}
 use Rattle.orm.specs.Calls.{diagramIn, sizesBy, sizesOf, checkCall}
@@ -36,7 +36,7 @@ use Rattle.guarantee.specs.Guarantee.{NoPopulation, RefusesEmptied}
 use Rattle.guarantee.specs.Inside.{none-emptied}
 use Rattle.guarantee.specs.Ends.{check-ends, settled-unsatisfiable}
 use Rattle.guarantee.specs.Proof.{none-fits, fault-of-form, guarantee}
-use Rattle.guarantee.specs.Averages.{Says, Averaged, AverageIn, Averages}
+use Rattle.guarantee.specs.Averages.{OwnPredicate, Says, Averaged, AverageIn, Averages}
 
 -- ---- the groups and their numbers
 
@@ -86,6 +86,13 @@ unfolding groupNumbered
 no-number number [] n = refl
 no-number number (g ∷ gs) n = numbered-there number g gs (n g (here refl)) ∙ no-number number gs (λ h m. n h (there m))
 
+own-predicate : (d : Diagram) (g : PlacedGroup) → g ∈ placedGroups d → OwnPredicate d g
+unfolding placedGroups groupsOfPlaced
+own-predicate d g m =
+    let (x, l, n) = of-flatMap groupsOfPlaced (placed d) m in
+    let (k, f, at, e) = of-mapFrom _ (x .groups) (x .predicate .groups) n in
+    rw e (record { of = x; among = l; place = k; same-group = at; same-set = sym (group-set x k); same-predicate = refl })
+
 -- ---- the two sizes of a group
 
 record Sizes (c : List ℕ) (g : PlacedGroup) : Type 0 where
@@ -93,22 +100,15 @@ record Sizes (c : List ℕ) (g : PlacedGroup) : Type 0 where
   least : g .frequency .fmin * size c (g .own) ≤ size c (g .predicate)
   most : size c (g .predicate) ≤ g .frequency .fmax * size c (g .own)
 
-group-sizes : {d : Diagram} {c : List ℕ} → Solved d c → (g : PlacedGroup) → g ∈ placedGroups d → Sizes c g
-unfolding placedGroups groupsOfPlaced
-group-sizes {d} {c} s g m =
-    let (x, l, n) = of-flatMap groupsOfPlaced (placed d) m in
-    go x l (of-mapFrom _ (x .groups) (x .predicate .groups) n)
-  where
-    go : (x : Placed) → x ∈ placed d
-        → (k : ℕ) × (f : Frequency) × At f (x .predicate .groups) k × (g ≡ record { own = x .groups + k; predicate = x .own; frequency = f }) → Sizes c g
-    go x l (k, f, at, e) =
-        let q : groupSet x (1 + k) ≡ x .groups + k = group-set x k in
-        rw e (record {
-          positive = rw q at (group-positive s l at);
-          least = rw mul-comm (le-div-iff-mul-le (each-from-at (GroupForm (x .predicate .roles)) 1 (pred-form s l .groups) at .some) .0
-              (rw q at (group-least s l at)));
-          most = rw q at (group-most s l at);
-        })
+group-sizes : {d : Diagram} {c : List ℕ} → Solved d c → (g : PlacedGroup) → OwnPredicate d g → Sizes c g
+group-sizes s g o =
+    let some = each-from-at (GroupForm (o .of .predicate .roles)) 1 (pred-form s (o .among) .groups) (o .same-group) .some in
+    rw (o .same-set, o .same-predicate)
+    (record {
+      positive = group-positive s (o .among) (o .same-group);
+      least = rw mul-comm (le-div-iff-mul-le some .0 (group-least s (o .among) (o .same-group)));
+      most = group-most s (o .among) (o .same-group);
+    })
 
 -- ---- the average
 
@@ -175,7 +175,7 @@ module _ (t : List ℕ) (d : Diagram) (e : diagramIn tableLine t ≡ accepted d)
         let p = guarantee .of-table t d e .otherwise exists in
         let c = p .settled in
         let v = p .settled-after .defined in
-        let s = group-sizes (fixpoint-solved form (own-bounds d) v) g m in
+        let s = group-sizes (fixpoint-solved form (own-bounds d) v) g (own-predicate d g m) in
         let small : (k : ℕ) → size c k ≤ 4096 = λ k.
         omega (arith, p .settled-after .meaning .solution .under .entry k, each-getD (_≤ 4096) (upper d) 0 (upper-small d form) (omega arith) k) in
         record {
@@ -203,6 +203,7 @@ unfolding averageCall
 averages = record {
   of-table = average-in;
   numbers = numbers-are;
+  own-predicates = own-predicate;
   frequencies = frequencies-are;
   other-numbers = other-number;
   other-tables = λ t no-one number. fault-of-form tableLine t _ no-one;

@@ -1,7 +1,7 @@
 -- The group with a number, found in a walk over the predicates: each has the numbers behind its first group's set, as many as it has groups.
 use Prim.Native.Nat.{ℕ, suc, _+_, _≤_, _<_}
 use mathlib.Core.Path.{_≡_, refl, sym, ap, _∙_}
-use mathlib.Core.Option.{Option, none, some, Option·some-injective, Option·none-ne-some}
+use mathlib.Core.Option.{none, some, Option·some-injective, Option·none-ne-some}
 use mathlib.Core.List.{List, [], _∷_, _++_, flatMap, List·Memᴰ·head as here, List·Memᴰ·tail as there, List·Memᴰ·not-nil, List·Memᴰ·append-cases}
 use mathlib.Core.Logic.{⊎-elim}
 use native.Mathlib.Omega.{arith}
@@ -14,6 +14,7 @@ use Rattle.counting.specs.Terms.{_∈_}
 use Rattle.orm.specs.Diagram.{Frequency, Predicate, Diagram, allGroups}
 use Rattle.orm.specs.Sets.{Placed, placedFrom, placed, firstPred, firstRole, firstGroup, setCount}
 use Rattle.orm.specs.Outcome.{refused, accepted}
+use Rattle.orm.specs.Meaning.{Between}
 use Rattle.orm.specs.Average.{PlacedGroup, groupsOfPlaced, placedGroups, groupNumbered, groupIn}
 
 -- ---- one group, and the others
@@ -27,24 +28,14 @@ module _ (number : ℕ) (g : PlacedGroup) (gs : List PlacedGroup) where
   unfolding groupNumbered
   numbered-there n = rw (ne-eqb number (suc (g .own)) n, groupNumbered) refl
 
--- The group that is found has the number
-pub numbered-own : (number : ℕ) (gs : List PlacedGroup) {g : PlacedGroup} → groupNumbered number gs ≡ some g → number ≡ suc (g .own)
+-- The group that is found is one of them, and has the number
+pub numbered-one : (number : ℕ) (gs : List PlacedGroup) {g : PlacedGroup} → groupNumbered number gs ≡ some g → (g ∈ gs) × (number ≡ suc (g .own))
 unfolding groupNumbered
-numbered-own number [] {g} e = let z : _≡_ {A = ℕ} 0 1 = cc in absurd (omega arith)
-numbered-own number (h ∷ gs) {g} e = elim (ℕ-discrete number (suc (h .own))) [
-  | yes q ↦ let same : _≡_ {A = Option PlacedGroup} (some h) (some g) = cc (numbered-here number h gs q) in
-      q ∙ ap (λ (x : PlacedGroup). suc (x .own)) (Option·some-injective h g same)
-  | no n ↦ numbered-own number gs (sym (numbered-there number h gs n) ∙ e)
-]
-
--- and is one of them
-pub numbered-in : (number : ℕ) (gs : List PlacedGroup) {g : PlacedGroup} → groupNumbered number gs ≡ some g → g ∈ gs
-unfolding groupNumbered
-numbered-in number [] {g} e = let z : _≡_ {A = ℕ} 0 1 = cc in absurd (omega arith)
-numbered-in number (h ∷ gs) {g} e = elim (ℕ-discrete number (suc (h .own))) [
-  | yes q ↦ let same : _≡_ {A = Option PlacedGroup} (some h) (some g) = cc (numbered-here number h gs q) in
-      here (sym (Option·some-injective h g same))
-  | no n ↦ there (numbered-in number gs (sym (numbered-there number h gs n) ∙ e))
+numbered-one number [] {g} e = absurd (Option·none-ne-some g e)
+numbered-one number (h ∷ gs) {g} e = elim (ℕ-discrete number (suc (h .own))) [
+  | yes q ↦ let same : h ≡ g = Option·some-injective h g (sym (numbered-here number h gs q) ∙ e) in
+      (here (sym same), q ∙ ap (λ (x : PlacedGroup). suc (x .own)) same)
+  | no n ↦ let (m, q) = numbered-one number gs (sym (numbered-there number h gs n) ∙ e) in (there m, q)
 ]
 
 -- Where none is found, none has it
@@ -72,15 +63,11 @@ module _ (r number : ℕ) (gs : List PlacedGroup) where
     | no n ↦ let (g, e, p) = among-from (suc q) fs (omega arith) (omega arith) in (g, numbered-there number _ _ n ∙ e, p)
   ]
 
-  above-from : (q : ℕ) (fs : List Frequency) → q + length fs < number → groupNumbered number (from q fs ++ gs) ≡ groupNumbered number gs
+  past-from : (q : ℕ) (fs : List Frequency) → ¬ Between (suc q) number (q + length fs) → groupNumbered number (from q fs ++ gs) ≡ groupNumbered number gs
   unfolding mapFrom
-  above-from q [] h = refl
-  above-from q (f ∷ fs) h = numbered-there number _ _ (λ e. omega arith) ∙ above-from (suc q) fs (omega arith)
-
-  below-from : (q : ℕ) (fs : List Frequency) → number ≤ q → groupNumbered number (from q fs ++ gs) ≡ groupNumbered number gs
-  unfolding mapFrom
-  below-from q [] h = refl
-  below-from q (f ∷ fs) h = numbered-there number _ _ (λ e. omega arith) ∙ below-from (suc q) fs (omega arith)
+  past-from q [] n = refl
+  past-from q (f ∷ fs) n =
+      numbered-there number _ _ (λ e. n (omega arith, omega arith)) ∙ past-from (suc q) fs (λ b. n (omega (arith, b .0), omega (arith, b .1)))
 
 module _ (number : ℕ) (x : Placed) (gs : List PlacedGroup) where
   pub among-groups : x .groups < number → number ≤ x .groups + length (x .predicate .groups)
@@ -88,17 +75,18 @@ module _ (number : ℕ) (x : Placed) (gs : List PlacedGroup) where
   unfolding groupsOfPlaced
   among-groups a b = among-from (x .own) number gs (x .groups) (x .predicate .groups) a b
 
-  pub above-groups : x .groups + length (x .predicate .groups) < number
+  pub past-groups : ¬ Between (suc (x .groups)) number (x .groups + length (x .predicate .groups))
       → groupNumbered number (groupsOfPlaced x ++ gs) ≡ groupNumbered number gs
   unfolding groupsOfPlaced
-  above-groups h = above-from (x .own) number gs (x .groups) (x .predicate .groups) h
+  past-groups n = past-from (x .own) number gs (x .groups) (x .predicate .groups) n
 
 -- No group has a number up to the first group's set
 pub below-all : (number r p q : ℕ) (ps : List Predicate) → number ≤ q → groupNumbered number (flatMap groupsOfPlaced (placedFrom r p q ps)) ≡ none
-unfolding placedFrom flatMap groupsOfPlaced groupNumbered
+unfolding placedFrom flatMap groupNumbered
 below-all number r p q [] h = refl
 below-all number r p q (x ∷ ps) h =
-    below-from r number _ q (x .groups) h ∙ below-all number (suc r) (p + length (x .roles)) (q + length (x .groups)) ps (omega arith)
+    past-groups number (record { predicate = x; own = r; roles = p; groups = q }) _ (λ b. omega (arith, b .0))
+    ∙ below-all number (suc r) (p + length (x .roles)) (q + length (x .groups)) ps (omega arith)
 
 -- ---- the sets of a group and of its predicate are among those of the diagram
 

@@ -1,4 +1,4 @@
-// The predicate whose group has a number: a walk over the predicates, whose groups' sets follow on another.
+// The predicate whose group has a number: a walk over the predicates, whose groups have the last sets in turn.
 ghost use mathlib.Core.Path.{_≡_};
 ghost use lib.ListN.{length};
 ghost use Rattle.orm.specs.Diagram.{allRoles};

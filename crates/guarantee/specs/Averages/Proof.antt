@@ -1,35 +1,30 @@
 -- The proof of S-14: the sizes that the rounds end with respect the limits of every group.
-use Prim.Native.Nat.{ℕ, suc, _+_, _*_, _/_, _%_, _≤_}
-use mathlib.Core.Path.{_≡_, refl, sym, ap, ap₂, _∙_}
+use Prim.Native.Nat.{ℕ, suc, _*_, _/_, _%_, _≤_}
+use mathlib.Core.Path.{_≡_, refl, sym, ap, _∙_}
 use mathlib.Core.Bool.{Bool, true, false}
-use mathlib.Core.Option.{none, some}
-use mathlib.Core.List.{List, [], _∷_, _++_, map, flatMap, map-append, Memᴰ·map, List·Memᴰ·head as here, List·Memᴰ·tail as there}
-use native.Mathlib.Nat.{le-div-iff-mul-le, mul-comm, mul-mod-left, mod-add-div', suc-inj}
+use mathlib.Core.List.{List}
+use native.Mathlib.Nat.{le-div-iff-mul-le, mul-comm, mul-mod-left, mod-add-div'}
 use native.Mathlib.Omega.{arith}
 use borrow.Author.Tests.{eqb-true, eqb-false}
 use lib.Dec.{eqb}
 use lib.Ieee.{binary64, round}
-use lib.ListN.{length}
-use Rattle.counting.specs.Lists.{upFrom, mapFrom}
-use Rattle.counting.specs.Terms.{_∈_, NoRepeats}
+use Rattle.counting.specs.Terms.{_∈_}
 use Rattle.counting.specs.Laws.Index.{of-mapFrom, each-from-at}
 use Rattle.counting.specs.Laws.Members.{each-getD, of-flatMap}
 use Rattle.counting.specs.Laws.Quotients.{rounds-once, rounded-number}
-use Rattle.counting.specs.Laws.Range.{upFrom-no-repeats}
 use Rattle.fixpoint.specs.Limits.{Verdict, unsatisfiable, fixpoint}
-use Rattle.orm.specs.Diagram.{Frequency, Predicate, Diagram, allGroups}
+use Rattle.orm.specs.Diagram.{Diagram}
 use Rattle.orm.specs.Text.{tableLine}
-use Rattle.orm.specs.Sets.{Placed, placed, placedFrom, firstGroup, upper, verdict, verdictFrom}
+use Rattle.orm.specs.Sets.{placed, upper, verdict, verdictFrom}
 use Rattle.orm.specs.Populate.{size}
 use Rattle.orm.specs.Outcome.{Outcome, refused, accepted, _>>=_, Sized}
 use Rattle.orm.specs.Calls.{diagramIn, sizesBy, sizesOf, checkCall}
-use Rattle.orm.specs.Average.{PlacedGroup, groupsOfPlaced, placedGroups, groupNumbered, groupIn, Average, whole, fraction, floatQuotient, averageOf, averageCall}
+use Rattle.orm.specs.Average.{PlacedGroup, groupsOfPlaced, placedGroups, groupIn, Average, whole, fraction, floatQuotient, averageOf, averageCall}
 use Rattle.orm.specs.WellFormed.{GroupForm, WellFormed}
-use Rattle.orm.specs.Laws.Average.{numbered-here, numbered-there, is-group, no-group}
+use Rattle.orm.specs.Laws.Average.{no-number, numbers-are, frequencies-are, numbered-placed, is-group, no-group}
 use Rattle.orm.specs.Laws.Bounds.{upper-small}
 use Rattle.orm.specs.Laws.Rounds.{own-bounds}
 use Rattle.reading.specs.Laws.{table-accepted-iff}
-use Rattle.complete.specs.Place.{group-sets}
 use Rattle.complete.specs.Laws.{fixpoint-solved}
 use Rattle.complete.specs.Solved.{Solved, group-set, pred-form, group-positive, group-most, group-least}
 use Rattle.guarantee.specs.Guarantee.{NoPopulation, RefusesEmptied}
@@ -38,53 +33,7 @@ use Rattle.guarantee.specs.Ends.{check-ends, settled-unsatisfiable}
 use Rattle.guarantee.specs.Proof.{none-fits, fault-of-form, guarantee}
 use Rattle.guarantee.specs.Averages.{OwnPredicate, Says, Averaged, AverageIn, Averages}
 
--- ---- the groups and their numbers
-
-module _ (r : ℕ) where
-  abbrev from : ℕ → List Frequency → List PlacedGroup
-  from q fs = mapFrom (λ (i : ℕ) (f : Frequency). record { own = i; predicate = r; frequency = f }) q fs
-
-  owns-from : (q : ℕ) (fs : List Frequency) → map (λ (g : PlacedGroup). g .own) (from q fs) ≡ upFrom q (length fs)
-  unfolding mapFrom upFrom
-  owns-from q [] = refl
-  owns-from q (f ∷ fs) = ap (q ∷_) (owns-from (suc q) fs)
-
-  frequencies-from : (q : ℕ) (fs : List Frequency) → map (λ (g : PlacedGroup). g .frequency) (from q fs) ≡ fs
-  unfolding mapFrom
-  frequencies-from q [] = refl
-  frequencies-from q (f ∷ fs) = ap (f ∷_) (frequencies-from (suc q) fs)
-
-owns : (xs : List Placed) → map (λ (g : PlacedGroup). g .own) (flatMap groupsOfPlaced xs)
-    ≡ flatMap (λ (x : Placed). upFrom (x .groups) (length (x .predicate .groups))) xs
-unfolding flatMap groupsOfPlaced
-owns [] = refl
-owns (x ∷ xs) = rw map-append (ap₂ _++_ (owns-from (x .own) (x .groups) (x .predicate .groups)) (owns xs))
-
-frequencies : (r p q : ℕ) (ps : List Predicate)
-    → map (λ (g : PlacedGroup). g .frequency) (flatMap groupsOfPlaced (placedFrom r p q ps)) ≡ flatMap (λ (x : Predicate). x .groups) ps
-unfolding placedFrom flatMap groupsOfPlaced
-frequencies r p q [] = refl
-frequencies r p q (x ∷ ps) = rw map-append (ap₂ _++_ (frequencies-from r q (x .groups)) (frequencies (suc r) _ _ ps))
-
-numbers-are : (d : Diagram) → map (λ (g : PlacedGroup). g .own) (placedGroups d) ≡ upFrom (firstGroup d) (length (allGroups d))
-unfolding placedGroups placed allGroups
-numbers-are d = owns (placed d) ∙ group-sets _ _ _ (d .preds)
-
-frequencies-are : (d : Diagram) → map (λ (g : PlacedGroup). g .frequency) (placedGroups d) ≡ allGroups d
-unfolding placedGroups placed allGroups
-frequencies-are d = frequencies _ _ _ (d .preds)
-
-numbered : (g : PlacedGroup) (gs : List PlacedGroup) → NoRepeats (map (λ (h : PlacedGroup). h .own) gs) → g ∈ gs
-    → groupNumbered (suc (g .own)) gs ≡ some g
-numbered g (h ∷ gs) n (here e) = rw e (numbered-here (suc (h .own)) h gs refl)
-numbered g (h ∷ gs) n (there m) =
-    let apart : ¬ (suc (g .own) ≡ suc (h .own)) = λ q. n .0 (rw (suc-inj q) at (Memᴰ·map (λ (k : PlacedGroup). k .own) m)) in
-    numbered-there (suc (g .own)) h gs apart ∙ numbered g gs (n .1) m
-
-no-number : (number : ℕ) (gs : List PlacedGroup) → ((g : PlacedGroup) → g ∈ gs → ¬ (number ≡ suc (g .own))) → groupNumbered number gs ≡ none
-unfolding groupNumbered
-no-number number [] n = refl
-no-number number (g ∷ gs) n = numbered-there number g gs (n g (here refl)) ∙ no-number number gs (λ h m. n h (there m))
+-- ---- a group and its predicate
 
 own-predicate : (d : Diagram) (g : PlacedGroup) → g ∈ placedGroups d → OwnPredicate d g
 unfolding placedGroups groupsOfPlaced
@@ -143,7 +92,7 @@ module _ (t : List ℕ) (d : Diagram) (e : diagramIn tableLine t ≡ accepted d)
     then o = o >>= λ s. accepted (averageOf (size (s .result) (g .predicate)) (size (s .result) (g .own)))
 
     in-groups : groupIn d (suc (g .own)) ≡ accepted g
-    in-groups = is-group d _ (numbered g (placedGroups d) (rw (numbers-are d) (upFrom-no-repeats _ _)) m)
+    in-groups = is-group d _ (numbered-placed d m)
 
     ends : averageCall t (suc (g .own)) ≡ then (sizesBy 7 (verdict d))
     unfolding averageCall sizesOf

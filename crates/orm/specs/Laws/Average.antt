@@ -1,16 +1,19 @@
--- The group with a number, found in a walk over the predicates: each has the numbers behind its first group's set, as many as it has groups.
+-- The groups of a diagram are the last sets, in file order; the one with a number is found in a walk over the predicates.
 use Prim.Native.Nat.{ℕ, suc, _+_, _≤_, _<_}
-use mathlib.Core.Path.{_≡_, refl, sym, ap, _∙_}
+use mathlib.Core.Path.{_≡_, refl, sym, ap, ap₂, _∙_}
 use mathlib.Core.Option.{none, some, Option·some-injective, Option·none-ne-some}
-use mathlib.Core.List.{List, [], _∷_, _++_, flatMap, List·Memᴰ·head as here, List·Memᴰ·tail as there, List·Memᴰ·not-nil, List·Memᴰ·append-cases}
+use mathlib.Core.List.{List, [], _∷_, _++_, map, flatMap, map-append, Memᴰ·map}
+use mathlib.Core.List.{List·Memᴰ·head as here, List·Memᴰ·tail as there, List·Memᴰ·not-nil, List·Memᴰ·append-cases}
 use mathlib.Core.Logic.{⊎-elim}
 use native.Mathlib.Omega.{arith}
+use native.Mathlib.Nat.{suc-inj}
 use native.Mathlib.Decide.{ℕ-discrete}
 use borrow.Author.Tests.{eq-eqb, ne-eqb}
 use lib.ListN.{length, length-append}
-use Rattle.counting.specs.Lists.{mapFrom}
+use Rattle.counting.specs.Lists.{upFrom, mapFrom}
 use Rattle.counting.specs.Laws.Index.{of-mapFrom, at-below}
-use Rattle.counting.specs.Terms.{_∈_}
+use Rattle.counting.specs.Laws.Range.{upFrom-append, upFrom-no-repeats}
+use Rattle.counting.specs.Terms.{_∈_, NoRepeats}
 use Rattle.orm.specs.Diagram.{Frequency, Predicate, Diagram, allGroups}
 use Rattle.orm.specs.Sets.{Placed, placedFrom, placed, firstPred, firstRole, firstGroup, setCount}
 use Rattle.orm.specs.Outcome.{refused, accepted}
@@ -48,14 +51,28 @@ numbered-none number (h ∷ gs) e g (there m) p = elim (ℕ-discrete number (suc
   | no n ↦ numbered-none number gs (sym (numbered-there number h gs n) ∙ e) g m p
 ]
 
+-- and where none has it, none is found
+pub no-number : (number : ℕ) (gs : List PlacedGroup) → ((g : PlacedGroup) → g ∈ gs → ¬ (number ≡ suc (g .own))) → groupNumbered number gs ≡ none
+unfolding groupNumbered
+no-number number [] n = refl
+no-number number (g ∷ gs) n = numbered-there number g gs (n g (here refl)) ∙ no-number number gs (λ h m. n h (there m))
+
+-- Each is found by its number, where no two have the same
+numbered : (g : PlacedGroup) (gs : List PlacedGroup) → NoRepeats (map (λ (h : PlacedGroup). h .own) gs) → g ∈ gs
+    → groupNumbered (suc (g .own)) gs ≡ some g
+numbered g (h ∷ gs) n (here e) = rw e (numbered-here (suc (h .own)) h gs refl)
+numbered g (h ∷ gs) n (there m) =
+    let apart : ¬ (suc (g .own) ≡ suc (h .own)) = λ q. n .0 (rw (suc-inj q) at (Memᴰ·map (λ (k : PlacedGroup). k .own) m)) in
+    numbered-there (suc (g .own)) h gs apart ∙ numbered g gs (n .1) m
+
 -- ---- the groups of a predicate, whose set is r, and those behind
 
-module _ (r number : ℕ) (gs : List PlacedGroup) where
-  abbrev from : ℕ → List Frequency → List PlacedGroup
-  from q fs = mapFrom (λ (i : ℕ) (f : Frequency). record { own = i; predicate = r; frequency = f }) q fs
+abbrev groupsFrom : ℕ → ℕ → List Frequency → List PlacedGroup
+groupsFrom r q fs = mapFrom (λ (i : ℕ) (f : Frequency). record { own = i; predicate = r; frequency = f }) q fs
 
+module _ (r number : ℕ) (gs : List PlacedGroup) where
   among-from : (q : ℕ) (fs : List Frequency) → q < number → number ≤ q + length fs
-      → (g : PlacedGroup) × (groupNumbered number (from q fs ++ gs) ≡ some g) × (g .predicate ≡ r)
+      → (g : PlacedGroup) × (groupNumbered number (groupsFrom r q fs ++ gs) ≡ some g) × (g .predicate ≡ r)
   unfolding mapFrom
   among-from q [] a b = absurd (omega arith)
   among-from q (f ∷ fs) a b = elim (ℕ-discrete number (suc q)) [
@@ -63,7 +80,7 @@ module _ (r number : ℕ) (gs : List PlacedGroup) where
     | no n ↦ let (g, e, p) = among-from (suc q) fs (omega arith) (omega arith) in (g, numbered-there number _ _ n ∙ e, p)
   ]
 
-  past-from : (q : ℕ) (fs : List Frequency) → ¬ Between (suc q) number (q + length fs) → groupNumbered number (from q fs ++ gs) ≡ groupNumbered number gs
+  past-from : (q : ℕ) (fs : List Frequency) → ¬ Between (suc q) number (q + length fs) → groupNumbered number (groupsFrom r q fs ++ gs) ≡ groupNumbered number gs
   unfolding mapFrom
   past-from q [] n = refl
   past-from q (f ∷ fs) n =
@@ -87,6 +104,41 @@ below-all number r p q [] h = refl
 below-all number r p q (x ∷ ps) h =
     past-groups number (record { predicate = x; own = r; roles = p; groups = q }) _ (λ b. omega (arith, b .0))
     ∙ below-all number (suc r) (p + length (x .roles)) (q + length (x .groups)) ps (omega arith)
+
+-- ---- all groups, by their numbers and by their frequencies
+
+owns-from : (r q : ℕ) (fs : List Frequency) → map (λ (g : PlacedGroup). g .own) (groupsFrom r q fs) ≡ upFrom q (length fs)
+unfolding mapFrom upFrom
+owns-from r q [] = refl
+owns-from r q (f ∷ fs) = ap (q ∷_) (owns-from r (suc q) fs)
+
+owns : (r p q : ℕ) (ps : List Predicate)
+    → map (λ (g : PlacedGroup). g .own) (flatMap groupsOfPlaced (placedFrom r p q ps)) ≡ upFrom q (length (flatMap (λ (x : Predicate). x .groups) ps))
+unfolding placedFrom flatMap groupsOfPlaced upFrom
+owns r p q [] = refl
+owns r p q (x ∷ ps) = rw (map-append, length-append, upFrom-append) (ap₂ _++_ (owns-from r q (x .groups)) (owns (suc r) _ _ ps))
+
+pub numbers-are : (d : Diagram) → map (λ (g : PlacedGroup). g .own) (placedGroups d) ≡ upFrom (firstGroup d) (length (allGroups d))
+unfolding placedGroups placed allGroups
+numbers-are d = owns _ _ _ (d .preds)
+
+pub numbered-placed : (d : Diagram) {g : PlacedGroup} → g ∈ placedGroups d → groupNumbered (suc (g .own)) (placedGroups d) ≡ some g
+numbered-placed d {g} m = numbered g (placedGroups d) (rw (numbers-are d) (upFrom-no-repeats _ _)) m
+
+frequencies-from : (r q : ℕ) (fs : List Frequency) → map (λ (g : PlacedGroup). g .frequency) (groupsFrom r q fs) ≡ fs
+unfolding mapFrom
+frequencies-from r q [] = refl
+frequencies-from r q (f ∷ fs) = ap (f ∷_) (frequencies-from r (suc q) fs)
+
+frequencies : (r p q : ℕ) (ps : List Predicate)
+    → map (λ (g : PlacedGroup). g .frequency) (flatMap groupsOfPlaced (placedFrom r p q ps)) ≡ flatMap (λ (x : Predicate). x .groups) ps
+unfolding placedFrom flatMap groupsOfPlaced
+frequencies r p q [] = refl
+frequencies r p q (x ∷ ps) = rw map-append (ap₂ _++_ (frequencies-from r q (x .groups)) (frequencies (suc r) _ _ ps))
+
+pub frequencies-are : (d : Diagram) → map (λ (g : PlacedGroup). g .frequency) (placedGroups d) ≡ allGroups d
+unfolding placedGroups placed allGroups
+frequencies-are d = frequencies _ _ _ (d .preds)
 
 -- ---- the sets of a group and of its predicate are among those of the diagram
 

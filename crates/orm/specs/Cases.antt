@@ -14,6 +14,7 @@ pub mod RoleLimits
 pub mod SingleLimits
 pub mod Prescribed
 pub mod Averages
+pub mod Multiples
 pub mod Several
 pub mod Broken
 pub mod Lines

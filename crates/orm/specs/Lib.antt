@@ -14,6 +14,7 @@ pub mod Average
 pub mod SingleLimits
 pub mod LineReader
 pub mod Program
+pub mod MultiplesText
 pub mod WellFormed
 pub mod Meaning
 pub mod Cases

@@ -5,6 +5,7 @@ pub mod Walks
 pub mod Pair
 pub mod Digits
 pub mod Prefix
+pub mod Multiples
 use Prim.Native.Nat.{ℕ, _*_, _%_, _≤_, _<_}
 use mathlib.Core.Path.{_≡_, sym, _∙_, ap}
 use mathlib.Core.List.{List}

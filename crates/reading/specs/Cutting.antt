@@ -3,18 +3,20 @@ use Prim.Native.Nat.{ℕ, zero, suc, _≤_, _<_}
 use mathlib.Core.Path.{_≡_, refl, sym, ap, ap₂, _∙_}
 use mathlib.Core.Bool.{Bool, true, false}
 use mathlib.Core.Option.{Option, none, some}
-use mathlib.Core.List.{List, [], _∷_, _++_, append-assoc}
+use mathlib.Core.List.{List, [], _∷_, _++_, flatMap, flatten, append-assoc}
 use native.Mathlib.Omega.{arith}
 use native.Mathlib.Nat.{suc-inj}
 use borrow.Author.Tests.{eqb-true, eq-eqb}
 use lib.Dec.{eqb}
 use lib.ListN.{length, take, drop}
+use Rattle.counting.specs.Terms.{Each}
 use Rattle.counting.specs.Laws.Members.{each-head, each-tail}
 use Rattle.orm.specs.Diagram.{LineKind}
 use Rattle.orm.specs.Reader.{Cut, broken, cut, exactly}
 use Rattle.orm.specs.Laws.Readers.{cut-cons, exactly-append, exactly-cut}
 use Rattle.orm.specs.Form.{fields}
 use Rattle.orm.specs.Text.{bytes, key, separator, isDigit, decimal, valuesText, lineText, Numeral, malformed, numeral, number, after, numbers, textLine, tableLine}
+use Rattle.orm.specs.MultiplesText.{lineNumbers}
 use Rattle.reading.specs.Lines.{Small, Cuts}
 use Rattle.reading.specs.Decimal.{number-only, number-every}
 
@@ -102,6 +104,15 @@ numbers-every (suc n) (x ∷ v) rest l h =
     rw append-assoc
     (numbers-step n x _ (separator (length v) ∷ s) s v rest (number-every x (separator (length v)) s (each-head _ h) (separator-ends (length v)))
     (rw e (after-every (separator n ∷ []) s)) (numbers-every n v rest e (each-tail _ h)))
+
+-- Lines of `k` numbers each, one after another, have the numbers that were written
+pub lines-every : (k : ℕ) (rows : List (List ℕ)) (rest : List ℕ) → Each (λ (r : List ℕ). length r ≡ k) rows → Each Small rows
+    → lineNumbers k (length rows) (flatMap valuesText rows ++ rest) ≡ cut (flatten rows) rest
+unfolding lineNumbers flatMap flatten
+lines-every k [] rest l h = refl
+lines-every k (r ∷ rows) rest l h =
+    rw (append-assoc, numbers-every k r (flatMap valuesText rows ++ rest) (each-head _ l) (each-head _ h), lineNumbers)
+    (rw (lines-every k rows rest (each-tail _ l) (each-tail _ h)) refl)
 
 text-every : (k : LineKind) (v rest : List ℕ) → length v ≡ fields k → Small v → textLine k (lineText (key k) v ++ rest) ≡ cut v rest
 unfolding textLine lineText

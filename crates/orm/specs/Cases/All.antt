@@ -4,6 +4,7 @@ use Rattle.counting.specs.Lists
 use Rattle.counting.specs.Totals
 use Rattle.counting.specs.Distinct
 use Rattle.pairing.specs.Pairing
+use Rattle.pairing.specs.Multiples
 use Rattle.fixpoint.specs.Limits
 use Rattle.orm.specs.Diagram
 use Rattle.orm.specs.Supertypes
@@ -21,6 +22,7 @@ use Rattle.orm.specs.SingleLimits
 use Rattle.orm.specs.Average
 use Rattle.orm.specs.LineReader
 use Rattle.orm.specs.Program
+use Rattle.orm.specs.MultiplesText
 
 unfoldable pub everything : Unit {0}
 unfolding
@@ -30,6 +32,7 @@ unfolding
     Distinct.all Distinct.member Distinct.distinct Distinct.occurrences Distinct.allDiffer Distinct.within
     Pairing.gcdWithin Pairing.gcd Pairing.lcm Pairing.leftOf Pairing.rightOf Pairing.single Pairing.pairedWith Pairing.pairedWithAll
     Pairing.tuples
+    Multiples.multipleRows Multiples.multiples Multiples.multipleAt Multiples.hasRow Multiples.listed Multiples.pairingMultiple
     Limits.valueOf Limits.lowered Limits.loweredBy Limits.round Limits.upperAfter Limits.firstBelow Limits.slack Limits.runFrom Limits.run
     Limits.lowers Limits.stepAt Limits.lowersAt Limits.anyLowers Limits.stepsBy
     Diagram.isRoot Diagram.isIndependent Diagram.isMandatory Diagram.isGrouped Diagram.plays Diagram.mustPlay Diagram.allRoles Diagram.allGroups Diagram.lineOfType
@@ -64,4 +67,5 @@ unfolding
     SingleLimits.frontOf SingleLimits.numbered SingleLimits.startCall SingleLimits.lowerCall SingleLimits.surveyCall
     LineReader.lineLength LineReader.nextLine LineReader.positionAfter
     Program.predText Program.report Program.reported Program.output Program.program
+    MultiplesText.multiplesText MultiplesText.lineNumbers
 everything = tt

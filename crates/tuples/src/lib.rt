@@ -46,12 +46,26 @@ fn gcd(a: u32, b: u32) -> u32
     x
 }
 
-fn lcm(a: u32, b: u32) -> u32
+// By Euclid's algorithm.
+pub fn lcm_by_gcd(a: u32, b: u32) -> u32
     requires { ⌜ a ≤ 4096 ⌝ }
     requires { ⌜ b ≤ 4096 ⌝ }
     ensures { λ r. ⌜ r ≡ lcm a b ⌝ }
 {
     quotient(a * b, gcd(a, b))
+}
+
+// From the table where both are 1 to 64.
+fn lcm(a: u32, b: u32) -> u32
+    requires { ⌜ a ≤ 4096 ⌝ }
+    requires { ⌜ b ≤ 4096 ⌝ }
+    ensures { λ r. ⌜ r ≡ lcm a b ⌝ }
+{
+    if multiples::lists(a, b) {
+        multiples::multiple(a, b)
+    } else {
+        lcm_by_gcd(a, b)
+    }
 }
 
 // How many tuples a set of t members makes of n, where so many are wanted.

@@ -1,6 +1,7 @@
 //! Filling a population.
 
 use crate::diagram::{form, Diagram, Predicate};
+use crate::multiples::multiple;
 use crate::sizes::{floors, settle, settle_from, starting};
 use crate::{room, Refusal, Settled};
 
@@ -26,17 +27,26 @@ fn gcd(a: usize, b: usize) -> usize {
     }
 }
 
+/// "Pairing uses the table where both sizes are 1 to 64, and gives for all sizes
+/// the pairs it gave" (document 02, S-12).
+fn lcm(a: usize, b: usize) -> usize {
+    multiple(a, b).unwrap_or_else(|| a / gcd(a, b) * b)
+}
+
 /// "pair i, from 0, is member i mod |S| of S and member (i + floor(i / lcm))
 /// mod |T| of T, lcm of the two sizes"; "keeping the smaller of the count
-/// wanted and |S| times |T|".
+/// wanted and |S| times |T|". The members of each pair by their index.
+pub fn pairs(s: usize, t: usize, wanted: usize) -> impl Iterator<Item = (usize, usize)> {
+    let lcm = lcm(s, t);
+    (0..wanted.min(s * t)).map(move |i| (i % s, (i + i / lcm) % t))
+}
+
 fn pair(s: &[Row], t: &[Row], wanted: usize) -> Vec<Row> {
-    let lcm = s.len() / gcd(s.len(), t.len()) * t.len();
-    let mut pairs = Vec::new();
-    for i in 0..wanted.min(s.len() * t.len()) {
-        let (left, right) = (s[i % s.len()], t[(i + i / lcm) % t.len()]);
-        pairs.push(std::array::from_fn(|column| left[column] | right[column]));
-    }
-    pairs
+    let join = |(i, j): (usize, usize)| -> Row {
+        let (left, right) = (s[i], t[j]);
+        std::array::from_fn(|column| left[column] | right[column])
+    };
+    pairs(s.len(), t.len(), wanted).map(join).collect()
 }
 
 /// "Three or more sets pair from the left"; "a single set is taken as it is".

@@ -1,5 +1,5 @@
-//! A second solution of document 01, amended by S-1, S-2, S-5, S-8, S-13 and
-//! S-14 of document 02, written from the documents alone, to compare others with.
+//! A second solution of document 01, amended by S-1, S-2, S-5, S-8, S-12, S-13
+//! and S-14 of document 02, written from the documents alone, to compare others with.
 //! Quoted words in comments are from document 01 where no other is named.
 
 mod average;
@@ -7,6 +7,7 @@ mod constraints;
 mod diagram;
 mod fill;
 mod limits;
+mod multiples;
 mod program;
 mod sizes;
 mod text;
@@ -19,8 +20,9 @@ pub mod foreign;
 pub use average::{average, Average};
 pub use constraints::{found, validate, Verdict};
 pub use diagram::{form, role_width, Diagram, Group, Predicate, Role, Type};
-pub use fill::{populate, prescribe};
+pub use fill::{pairs, populate, prescribe};
 pub use limits::{limits, lower, start, survey, Limit, Lowered, Survey, Value};
+pub use multiples::{multiple, multiples_text, MULTIPLES};
 pub use program::program;
 pub use sizes::{check, floors, round, settle, starting};
 pub use text::{read, write};

@@ -1,6 +1,6 @@
 //! Seeded random inputs: diagrams, damaged texts, tables and cells, ceilings
-//! and numbers of limits, numbers of sets and of groups, wanted sizes, and lengths
-//! of lent space.
+//! and numbers of limits, numbers of sets and of groups, wanted sizes, sets about
+//! the edge of the table of common multiples, and lengths of lent space.
 
 use crate::{floors, limits, role_width, round, settle, starting};
 use crate::{Diagram, Group, Limit, Predicate, Role, Type, Value};
@@ -1560,6 +1560,133 @@ pub fn wanted(random: &mut Random, d: &Diagram, set: usize) -> u32 {
         36 => u32::MAX,
         37 => other_number(random, size),
         _ => random.between(1, 12),
+    }
+}
+
+/// A size about the last of the table of common multiples, of the table, small,
+/// or past it.
+fn edge_size(random: &mut Random) -> u32 {
+    match random.below(16) {
+        0..5 => random.pick(&[63, 64, 64, 65, 65]),
+        5..10 => random.between(1, 64),
+        10 => random.pick(&[1, 2, 16, 32, 48, 60, 62]),
+        11..13 => random.between(2, 16),
+        13..15 => random.between(65, 130),
+        _ => random.pick(&[66, 96, 128, 1024, 4095, 4096]),
+    }
+}
+
+/// The sizes of a predicate's roles: two of the table, two about its edge, or
+/// first such that are 63, 64, 65 or so together, and one or two others.
+fn edge_sizes(random: &mut Random) -> Vec<u32> {
+    const FACTORS: [&[u32]; 16] = [
+        &[7, 9],
+        &[3, 21],
+        &[8, 8],
+        &[4, 16],
+        &[16, 4],
+        &[2, 32],
+        &[64, 1],
+        &[4, 4, 4],
+        &[2, 8, 4],
+        &[5, 13],
+        &[13, 5],
+        &[1, 65],
+        &[6, 11],
+        &[9, 8],
+        &[2, 3, 11],
+        &[10, 10],
+    ];
+    match random.below(20) {
+        0..9 => vec![random.between(1, 64), random.between(1, 64)],
+        9..14 => vec![edge_size(random), edge_size(random)],
+        how => {
+            let mut sizes = random.pick(&FACTORS).to_vec();
+            sizes.push(edge_size(random));
+            if how == 19 {
+                sizes.push(random.between(1, 9));
+            }
+            sizes
+        }
+    }
+}
+
+/// A diagram that pairs sets of sizes about the last of the table of common
+/// multiples. Each role has a type of its own, as large as the role is to be, or
+/// larger with an RMAX. The first roles are often a group, and there are mostly as
+/// many rows as can be.
+pub fn edge_diagram(random: &mut Random) -> Diagram {
+    let version = random.pick(&[1, 1, 2]);
+    let mut d = Diagram {
+        version,
+        types: Vec::new(),
+        preds: Vec::new(),
+    };
+    for _ in 0..random.pick(&[1, 1, 2, 3]) {
+        let sizes = edge_sizes(random);
+        let named = match random.below(10) {
+            0..3 => sizes.len() - 1,
+            3 => 1,
+            _ => 0,
+        };
+        let mut roles = Vec::new();
+        for (place, size) in sizes.iter().enumerate() {
+            let more = match version == 2 && random.chance(40) {
+                true => random.between(0, 40),
+                false => 0,
+            };
+            let max = (size + more).min(4096);
+            let first = random.pick(&[0, 1, 1, 999_999 - max]);
+            d.types.push(Type {
+                min: 1,
+                max,
+                first,
+                last: first + max - 1,
+                over: 0,
+                indep: 1,
+            });
+            roles.push(Role {
+                kind: d.types.len() as u32,
+                mand: 0,
+                group: u32::from(place < named),
+                rmin: 1,
+                rmax: if more > 0 { *size } else { 4096 },
+            });
+        }
+        // The group's roles come first in a pairing wherever they stand.
+        if random.chance(30) {
+            random.shuffle(&mut roles);
+        }
+        let fmin = random.pick(&[1, 1, 1, 2]);
+        let fmax = random.pick(&[fmin, 4096, 4096, 4096]);
+        let max = match random.below(20) {
+            0..12 => 4096,
+            12..14 => random.pick(&[63, 64, 65, 126, 128, 130]),
+            14..18 => (sizes[0] * random.between(1, 64)).clamp(2, 4095) + 1 - random.between(0, 2),
+            _ => random.between(1, 4096),
+        };
+        d.preds.push(Predicate {
+            min: 1,
+            max,
+            roles,
+            groups: (0..named.min(1)).map(|_| Group { fmin, fmax }).collect(),
+        });
+    }
+    if random.chance(15) {
+        tighten(random, &mut d);
+    }
+    d
+}
+
+/// A size wanted of the set of this index: about the last of the table of common
+/// multiples where it may have that, or any.
+pub fn edge_wanted(random: &mut Random, d: &Diagram, set: usize) -> u32 {
+    let size = settle(d).map_or(1, |(_, sizes)| sizes[set]);
+    let wanted = random.pick(&[62, 63, 64, 64, 65, 65, 66]);
+    match wanted <= size && random.chance(75) {
+        true => wanted,
+        false if random.chance(60) => size,
+        false => self::wanted(random, d, set),
     }
 }
 

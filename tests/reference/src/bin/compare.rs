@@ -13,22 +13,25 @@
 //!
 //! An input is one call with its lent space, or a sequence of single limits from
 //! the start to the end. The answers and every lent number or byte afterwards
-//! must agree. Input i depends on the seed and i alone. Each sixth input is of an
-//! average use, of the others each fifth of a prescribed size, and of those left
-//! each fourth of the calls for single limits.
+//! must agree. Input i depends on the seed and i alone. Each seventh input is a
+//! population of sets about the edge of the table of common multiples, of the rest
+//! each sixth is of an average use, of the others each fifth of a prescribed size,
+//! and of those left each fourth of the calls for single limits.
 
 use reference::foreign::{self, Answer};
 use reference::random::{self, Random};
 use reference::{check, floors, form, found, limits, settle, starting};
 use reference::{Average, Diagram, Lowered, Refusal, Settled, Survey, Verdict};
 use std::cmp::Ordering;
-use std::collections::BTreeMap;
+use std::collections::{BTreeMap, BTreeSet};
 use std::fmt::Debug;
 use std::time::Instant;
 
-/// The cases of each outcome, and the name of the input at work.
+/// The cases of each outcome, the places of the table of common multiples that
+/// pairings ask for, and the name of the input at work.
 struct Compare {
     outcomes: BTreeMap<(&'static str, String), usize>,
+    places: [BTreeSet<(usize, usize)>; 3],
     place: String,
     trace: bool,
 }
@@ -190,11 +193,24 @@ impl Compare {
 
     fn populate(&mut self, random: &mut Random) {
         let table = self.table(random, 90);
+        self.populate_of("populate", random, &table, random::lent);
+    }
+
+    /// A population with a buffer of a length for the one that is needed; whether
+    /// it is accepted.
+    fn populate_of(
+        &mut self,
+        name: &'static str,
+        random: &mut Random,
+        table: &[u32],
+        lent: impl Fn(&mut Random, usize) -> usize,
+    ) -> bool {
         let ours = |table: &[u32], cells: &mut [u32]| settled(reference::populate(table, cells));
-        let wanted = needed(ours(&table, &mut []));
-        let lent = random::lent(random, wanted);
+        let wanted = needed(ours(table, &mut []));
+        let lent = lent(random, wanted);
         let lent = random::pattern(random, lent, |bits| bits as u32);
-        self.lent_call("populate", &table, lent, ours, foreign::populate);
+        let (answer, _) = self.lent_call(name, table, lent, ours, foreign::populate);
+        answer[0] == 0
     }
 
     fn validate(&mut self, random: &mut Random) {
@@ -397,21 +413,37 @@ impl Compare {
 
     fn prescribe(&mut self, random: &mut Random) {
         let (table, set, wanted) = self.prescription(random);
+        let lent = random::lent;
+        self.prescribe_of("prescribe", random, &table, (set, wanted), lent);
+    }
+
+    /// A prescription with a buffer of a length for the one that is needed; the
+    /// cells where it is accepted.
+    fn prescribe_of(
+        &mut self,
+        name: &'static str,
+        random: &mut Random,
+        table: &[u32],
+        (set, wanted): (u32, u32),
+        lent: impl Fn(&mut Random, usize) -> usize,
+    ) -> Option<Vec<u32>> {
         self.place += &format!(", set {set}, wanted {wanted}");
         let ours = |table: &[u32], cells: &mut [u32]| {
             settled(reference::prescribe(table, set, wanted, cells))
         };
         let theirs =
             |table: &[u32], cells: &mut [u32]| foreign::prescribe(table, set, wanted, cells);
-        let needed = needed(ours(&table, &mut []));
-        let lent = random::lent(random, needed);
+        let needed = needed(ours(table, &mut []));
+        let lent = lent(random, needed);
         let lent = random::pattern(random, lent, |bits| bits as u32);
-        let (answer, cells) = self.lent_call("prescribe", &table, lent, ours, theirs);
+        let (answer, mut cells) = self.lent_call(name, table, lent, ours, theirs);
         match answer[0] {
-            0 => self.prescribed(&table, (set, wanted), &cells[..needed]),
-            11 => self.impossible(&table, (set, wanted), answer),
+            0 => self.prescribed(name, table, (set, wanted), &cells[..needed]),
+            11 => self.impossible(name, table, (set, wanted), answer),
             _ => (),
         }
+        cells.truncate(needed);
+        (answer[0] == 0).then_some(cells)
     }
 
     /// How a wanted size lies to the one that the set settles at without it.
@@ -431,7 +463,13 @@ impl Compare {
 
     /// The cells of an accepted answer are a population in which the set has just
     /// the wanted size; where it is the settled one, the library's own population.
-    fn prescribed(&mut self, table: &[u32], (set, wanted): (u32, u32), cells: &[u32]) {
+    fn prescribed(
+        &mut self,
+        name: &'static str,
+        table: &[u32],
+        (set, wanted): (u32, u32),
+        cells: &[u32],
+    ) {
         let said = verdict(reference::validate(table, cells));
         self.round_trip("the verdict on prescribed cells", &[0; 4], &said);
         let d = form(table).expect("an accepted table");
@@ -441,10 +479,10 @@ impl Compare {
         self.round_trip("the size of a prescribed set", &[wanted], &[size]);
         let (beside, plain) = self.beside(table, set, wanted);
         let kind = kind_of(&d, set);
-        self.count("prescribe", &format!("accepted, {beside}, a {kind}"));
+        self.count(name, &format!("accepted, {beside}, a {kind}"));
         let moved = |(size, plain): &(&u32, &u32)| size != plain;
         if sizes.iter().zip(&plain).filter(moved).count() > 1 {
-            self.count("prescribe", "accepted, other sets smaller too");
+            self.count(name, "accepted, other sets smaller too");
         }
         if beside == "the settled size" {
             let mut own = vec![0; cells.len()];
@@ -454,7 +492,13 @@ impl Compare {
     }
 
     /// What a refusal with 11 says.
-    fn impossible(&mut self, table: &[u32], (set, wanted): (u32, u32), answer: Answer) {
+    fn impossible(
+        &mut self,
+        name: &'static str,
+        table: &[u32],
+        (set, wanted): (u32, u32),
+        answer: Answer,
+    ) {
         let (beside, _) = self.beside(table, set, wanted);
         let round = match answer[2] {
             0 => "round 0",
@@ -465,7 +509,72 @@ impl Compare {
             false => "another set",
         };
         let outcome = format!("refused 11, {beside}, {round}, {named}");
-        self.count("prescribe", &outcome);
+        self.count(name, &outcome);
+    }
+
+    /// A population of sets about the edge of the table of common multiples, with a
+    /// prescribed size or without, mostly with a buffer that is long enough.
+    fn edge(&mut self, random: &mut Random) {
+        let d = random::edge_diagram(random);
+        let table = d.table();
+        let lent = |random: &mut Random, needed| match random.chance(85) {
+            true => needed + random.below(3),
+            false => random::lent(random, needed),
+        };
+        if random.chance(60) {
+            let name = "edge, populate";
+            if self.populate_of(name, random, &table, lent) {
+                let (_, sizes) = settle(&d).expect("sizes of a population");
+                let sizes: Vec<usize> = sizes.iter().map(|size| *size as usize).collect();
+                self.paired(name, &pairings(&d, &sizes));
+            }
+            return;
+        }
+        let set = random.between(1, d.count_sets() as u32);
+        let wanted = random::edge_wanted(random, &d, set as usize - 1);
+        let name = "edge, prescribe";
+        if let Some(cells) = self.prescribe_of(name, random, &table, (set, wanted), lent) {
+            let sizes = found(&d, &cells).expect("cells of an accepted table");
+            self.paired(name, &pairings(&d, &sizes));
+        }
+    }
+
+    /// How the sizes of an input's pairings lie to the table's edge.
+    fn paired(&mut self, name: &'static str, pairings: &[[usize; 4]]) {
+        let mut some = |what: &str, has: &dyn Fn(&[usize; 4]) -> bool| {
+            if pairings.iter().any(has) {
+                self.count(name, &format!("with {what}"));
+            }
+        };
+        let within = |[s, t, ..]: &[usize; 4]| *s <= 64 && *t <= 64;
+        let shifted = |[s, t, pairs, _]: &[usize; 4]| {
+            reference::multiple(*s, *t).is_some_and(|multiple| *pairs > multiple)
+        };
+        let whole = |[s, t, pairs, _]: &[usize; 4]| *pairs == s * t;
+        some("both 1 to 64", &within);
+        some("both 1 to 64, shifted", &shifted);
+        some("both 1 to 64, all pairs", &|p| within(p) && whole(p));
+        some("both past 64", &|p| p[0] > 64 && p[1] > 64);
+        some("up to 64 with past 64", &|p| p[0] <= 64 && p[1] > 64);
+        some("past 64 with up to 64", &|p| p[0] > 64 && p[1] <= 64);
+        some("three sets or more", &|p| p[3] > 1);
+        some("two sets or more that make 64", &|p| p[3] > 1 && p[0] == 64);
+        some("two sets or more that make 65", &|p| p[3] > 1 && p[0] == 65);
+        some("two sets or more past 64", &|p| p[3] > 1 && p[0] > 64);
+        for size in [1, 63, 64, 65] {
+            some(&format!("a size of {size}"), &|p| p[..2].contains(&size));
+        }
+        for (s, t) in [(63, 64), (64, 63), (64, 64), (64, 65), (65, 64), (65, 65)] {
+            some(&format!("{s} with {t}"), &|p| p[..2] == [s, t]);
+        }
+        for pairing in pairings.iter().filter(|pairing| within(pairing)) {
+            let met = [true, shifted(pairing), whole(pairing)];
+            for (places, met) in self.places.iter_mut().zip(met) {
+                if met {
+                    places.insert((pairing[0], pairing[1]));
+                }
+            }
+        }
     }
 
     /// A table and the number of a set, mostly of a group.
@@ -570,6 +679,37 @@ fn kind_of(d: &Diagram, set: u32) -> &'static str {
     }
 }
 
+/// The sizes of the two sets of each pairing, how many pairs it makes, and of how
+/// many sets the first is made.
+fn pairings(d: &Diagram, sizes: &[usize]) -> Vec<[usize; 4]> {
+    let mut pairings = Vec::new();
+    let mut from_left = |sets: &[usize], wanted: usize| {
+        let mut left = sets[0];
+        for (made, size) in (1..).zip(&sets[1..]) {
+            let pairs = wanted.min(left * size);
+            pairings.push([left, *size, pairs, made]);
+            left = pairs;
+        }
+    };
+    let r = d.types.len();
+    let (mut p, mut q) = (r + d.preds.len(), d.count_sets() - d.count_groups());
+    for (pred, rows) in d.preds.iter().zip(&sizes[r..]) {
+        let of = |group: u32| -> Vec<usize> {
+            let roles = pred.roles.iter().zip(&sizes[p..]);
+            let own = roles.filter(|(role, _)| role.group == group);
+            own.map(|(_, size)| *size).collect()
+        };
+        let mut sets = sizes[q..q + pred.groups.len()].to_vec();
+        for (group, size) in (1..).zip(&sets) {
+            from_left(&of(group), *size);
+        }
+        sets.extend(of(0));
+        from_left(&sets, *rows);
+        (p, q) = (p + pred.roles.len(), q + pred.groups.len());
+    }
+    pairings
+}
+
 /// The generator for the input with this number.
 fn nth(seed: u64, i: u64) -> Random {
     Random::new(Random::new(seed).bits() ^ Random::new(i).bits())
@@ -586,28 +726,33 @@ fn main() {
     };
     let mut compare = Compare {
         outcomes: BTreeMap::new(),
+        places: Default::default(),
         place: String::new(),
         trace: std::env::args().nth(3).is_some_and(|word| word == "trace"),
     };
     let start = Instant::now();
     for i in 0..count {
         compare.place = format!("seed {seed}, input {i}");
-        // Each sixth is of an average use, of the rest each fifth of a prescribed
-        // size, of those left each fourth of single limits; each kind counts its
-        // own alone.
-        let rest = i / 6 * 5 + i % 6;
+        // Each seventh is about the table's edge, of the others each sixth of an
+        // average use, of the rest each fifth of a prescribed size, of those left
+        // each fourth of single limits; each kind counts its own alone.
+        let other = i / 7 * 6 + i % 7;
+        let rest = other / 6 * 5 + other % 6;
         let left = rest / 5 * 4 + rest % 5;
-        match (i % 6, rest % 5, left % 4) {
-            (5, ..) => compare.average(&mut nth(seed ^ 1 << 62, i / 6)),
-            (_, 4, _) => compare.prescribe(&mut nth(seed ^ 1 << 63, rest / 5)),
-            (_, _, 3) => compare.limit_input(&mut nth(!seed, left / 4)),
-            (_, _, own) => compare.input(&mut nth(seed, left / 4 * 3 + own)),
+        match (i % 7, other % 6, rest % 5, left % 4) {
+            (6, ..) => compare.edge(&mut nth(seed ^ 1 << 61, i / 7)),
+            (_, 5, ..) => compare.average(&mut nth(seed ^ 1 << 62, other / 6)),
+            (_, _, 4, _) => compare.prescribe(&mut nth(seed ^ 1 << 63, rest / 5)),
+            (_, _, _, 3) => compare.limit_input(&mut nth(!seed, left / 4)),
+            (_, _, _, own) => compare.input(&mut nth(seed, left / 4 * 3 + own)),
         }
     }
     let rate = count as f64 / start.elapsed().as_secs_f64();
     for ((call, outcome), cases) in &compare.outcomes {
         println!("{call} {outcome}: {cases}");
     }
+    let [asked, shifted, whole] = compare.places.map(|places| places.len());
+    println!("places of the table: {asked} asked, {shifted} with a shift, {whole} with all rows");
     println!("{rate:.0} cases per second");
     println!("{count} inputs, 0 differences");
 }

@@ -1,0 +1,6 @@
+pub mod Lowest
+pub mod Pairs
+pub mod Sound
+pub mod Complete
+pub mod Answered
+pub mod Later

@@ -3,7 +3,7 @@
 -- Code that walks cells stands at a position `at`; what it reads there is a definition of the list `drop at s`.
 use Prim.Native.Nat.{ℕ, suc, _+_, _*_}
 use mathlib.Core.Bool.{Bool, true, false}
-use mathlib.Core.List.{List, [], _∷_}
+use mathlib.Core.List.{List, [], _∷_, _++_, map}
 use lib.Dec.{leb}
 use lib.ListN.{length, getD, take, drop, replicate}
 use Rattle.orm.specs.Diagram.{ObjectType, Predicate, Diagram}
@@ -64,6 +64,19 @@ populationAt d s = record { types = membersIn (d .types) s; preds = rowsIn (d .p
 unfoldable pub endOf : List ℕ → List ℕ → ℕ → End
 endOf s [] at = At at
 endOf s (w ∷ ws) at = elim (blockFits w (drop at s)) [ true ↦ endOf s ws (at + blockLength w (drop at s)) | false ↦ Short ]
+
+-- The width of each block: the types' and then the predicates'
+unfoldable pub blockWidths : Diagram → List ℕ
+blockWidths d = replicate (length (d .types)) 1 ++ map predWidth (d .preds)
+
+-- Where blocks of these widths start that stand from `at` on, up to and with the first that is not there whole; and the end where all are
+unfoldable pub startsOf : List ℕ → List ℕ → ℕ → List ℕ
+startsOf s [] at = at ∷ []
+startsOf s (w ∷ ws) at = at ∷ elim (blockFits w (drop at s)) [ true ↦ startsOf s ws (at + blockLength w (drop at s)) | false ↦ [] ]
+
+-- A list whose front is overwritten
+unfoldable pub writtenOver : List ℕ → List ℕ → List ℕ
+writtenOver front l = front ++ drop (length front) l
 
 -- Document 01's number and place of cells that can't be cut
 abbrev pub extentOf : Population → Extent → Outcome Population

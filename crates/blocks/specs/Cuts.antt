@@ -1,17 +1,16 @@
 -- Cutting by positions: each block is there whole, or the cells end early; behind the last block nothing is left, or the cells run on.
-use Prim.Native.Nat.{ℕ, zero, suc, _+_, _*_, _-_, _≤_, _<_, suc-le-suc}
+use Prim.Native.Nat.{ℕ, zero, suc, _+_, _*_, _≤_, _<_, suc-le-suc}
 use native.Mathlib.Nat.{mul-one, suc-mul, add-comm, zero-add, suc-add}
 use native.Mathlib.Omega.{arith}
 use mathlib.Core.Path.{_≡_, refl, sym, ap, ap₂, subst, _∙_}
 use mathlib.Core.Bool.{Bool, true, false}
 use mathlib.Core.List.{List, [], _∷_, map}
-use lib.Dec.{leb}
 use lib.ListN.{length, getD, take, drop, length-drop, replicate, drop-of-length-le}
-use lib.Seq.{drop-cons, drop-drop, take-take, take-nil, drop-nil}
-use borrow.Author.Tests.{le-leb, lt-leb, leb-true, leb-false}
+use lib.Seq.{drop-cons, drop-drop, take-take, take-nil}
+use borrow.Author.Tests.{leb-true, leb-false}
 use Rattle.orm.specs.Diagram.{ObjectType, Predicate, Diagram}
-use Rattle.orm.specs.Reader.{Reading, rejected, read, Reader, _>>=_, forEach, atEnd, Cut, broken, cut, exactly}
-use Rattle.orm.specs.Population.{Population, Block, block, rowsOf, typeBlock, predBlock, blocks, cutting}
+use Rattle.orm.specs.Reader.{Reading, rejected, read, Reader, _>>=_, forEach, atEnd, broken, cut, exactly}
+use Rattle.orm.specs.Population.{block, rowsOf, typeBlock, predBlock, blocks, cutting}
 use Rattle.blocks.specs.declared.End.{End}
 use Rattle.blocks.specs.declared.End.the-variants.{At, Short}
 use Rattle.orm.specs.Laws.Readers.{bind-read}
@@ -161,7 +160,7 @@ end-behind s (w ∷ ws) at e h = go (blockFits w (drop at s)) refl h (end-behind
     go true p q ih = rw drop-drop (ih q)
     go false p q ih = let z : _≡_ {A = ℕ} 0 1 = cc in absurd (omega arith)
 
-ones : (ts : List ObjectType) → map typeWidth ts ≡ replicate (length ts) 1
+pub ones : (ts : List ObjectType) → map typeWidth ts ≡ replicate (length ts) 1
 ones [] = refl
 ones (t ∷ ts) = ap (λ (l : List ℕ). 1 ∷ l) (ones ts)
 
@@ -200,7 +199,7 @@ module _ (d : Diagram) (s : List ℕ) where
   extent-no-types h = ap outcomeOf (bind-rejected (forEach typeBlock (d .types)) _ 0 s 9 (length s) (types-short h))
 
   module _ (from : ℕ) (h : TypesEnd (At from)) where
-    pub types-end-within : from ≤ length s
+    types-end-within : from ≤ length s
     types-end-within = types-whole from h .1
 
     preds-short : PredsEnd from Short → forEach predBlock (d .preds) from (drop from s) ≡ rejected 9 (length s)

@@ -1,31 +1,24 @@
 -- The laws of places in cells: where a block ends, and what the columns and rows there hold.
 use Prim.Native.Nat.{ℕ, zero, suc, _+_, _*_, _-_, _≤_, _<_, min}
-use native.Mathlib.Nat.{add-comm, add-zero, mul-le-mul, mul-one, zero-mul}
-use native.Mathlib.Numerals.{one-add}
+use native.Mathlib.Nat.{add-comm, add-zero, mul-le-mul, mul-one}
 use native.Mathlib.Omega.{arith}
 use mathlib.Core.Path.{_≡_, refl, sym, ap, ap₂, _∙_}
-use mathlib.Core.Bool.{Bool, true, false, not}
-use mathlib.Core.List.{List, [], _∷_, map}
+use mathlib.Core.Bool.{Bool, false, not}
+use mathlib.Core.List.{List, [], _∷_}
 use lib.Dec.{leb}
-use lib.ListN.{length, getD, take, drop, length-drop, length-take, replicate, drop-of-length-le}
+use lib.ListN.{length, getD, take, drop, length-drop, length-take, drop-of-length-le}
 use lib.Seq.{drop-drop, getD-take, getD-drop}
-use borrow.Author.Tests.{not-true, not-false}
+use borrow.Author.Tests.{not-false}
 use Rattle.counting.specs.Lists.{column}
-use Rattle.orm.specs.Diagram.{ObjectType}
-use Rattle.orm.specs.Form.{typeOf}
 use Rattle.orm.specs.Population.{rowsOf}
-use Rattle.orm.specs.Constraints.{membersOf}
-use Rattle.table.specs.Positions.{predOf, predLength, predsIn, typeCount, predCount, firstPredAt, diagramOf}
-use Rattle.table.specs.Laws.Walks.{each-length, role-count, preds-more, preds-none}
+use Rattle.table.specs.Positions.{predOf}
+use Rattle.table.specs.Laws.Walks.{role-count}
 use Rattle.columns.specs.declared.Column.{Column}
 use Rattle.columns.specs.declared.Rows.{Rows}
-use Rattle.columns.specs.Values.{spaced, valuesIn}
+use Rattle.columns.specs.Values.{spaced}
 use Rattle.columns.specs.Reach.{Reached}
-use Rattle.blocks.specs.declared.End.{End}
-use Rattle.blocks.specs.declared.End.the-variants.{At, Short}
 use Rattle.blocks.specs.Cuts.{fits-length}
-use Rattle.blocks.specs.Blocks.{blockLength, blockFits, membersAt, rowsAt, behind, contents, membersIn, behindTypes, populationAt}
-use Rattle.blocks.specs.Blocks.{predWidth, endOf}
+use Rattle.blocks.specs.Blocks.{blockLength, blockFits, membersAt, rowsAt, predWidth}
 
 -- ---- the numbers stay small
 
@@ -39,6 +32,10 @@ pub size-product : (w m : ℕ) {v i : ℕ} → v ≡ m → i ≡ v → i * w ≡
 size-product w m e f = ap (λ (n : ℕ). n * w) (f ∙ e)
 
 -- ---- one block
+
+-- The block of entries of `width` cells that starts at `at` ends among the cells
+pub record BlockHere (s : List ℕ) (at width : ℕ) : Type 0 where
+  pub within : at + blockLength width (drop at s) ≤ length s
 
 module _ (s : List ℕ) (at w : ℕ) where
   pub fits-past : length s ≤ at → false ≡ blockFits w (drop at s)
@@ -56,116 +53,8 @@ module _ (s : List ℕ) (at w : ℕ) where
       go [] k = absurd (omega arith)
       go (x ∷ l) k = let m : suc (length l) - 1 ≡ length l = omega arith in rw m
 
-  pub end-here : (r n : ℕ) → n ≡ getD (drop at s) 0 0 * w → drop r s ≡ drop (1 + n) (drop at s)
-      → drop r s ≡ drop (blockLength w (drop at s)) (drop at s)
-  end-here r n e h = h ∙ ap (λ (m : ℕ). drop m (drop at s)) (one-add n ∙ ap suc e)
-
-  -- a block that is there whole ends where it is told
-  end-exact : (r : ℕ) → at ≤ length s → blockFits w (drop at s) ≡ true → drop r s ≡ drop (blockLength w (drop at s)) (drop at s)
-      → r ≤ length s
-      → r ≡ at + blockLength w (drop at s)
-  end-exact r a f e h =
-      let long : length (drop at s) ≡ length s - at = length-drop at s in
-      let whole : blockLength w (drop at s) ≤ length (drop at s) = fits-length w (drop at s) f in
-      let left : length s - r ≡ length s - (at + blockLength w (drop at s)) =
-      sym (length-drop r s) ∙ ap length (e ∙ drop-drop (blockLength w (drop at s)) at s) ∙ length-drop (at + blockLength w (drop at s)) s in
-      omega arith
-
--- ---- blocks one behind the other: where those left end is where all end
-
-ones-more : (n : ℕ) → 0 < n → replicate {A = ℕ} n 1 ≡ 1 ∷ replicate (n - 1) 1
-ones-more zero h = absurd (omega arith)
-ones-more (suc n) h = let k : n ≡ suc n - 1 = omega arith in ap (λ (m : ℕ). 1 ∷ replicate {A = ℕ} m 1) k
-
-ones-none : (n : ℕ) → n ≤ 0 → replicate {A = ℕ} n 1 ≡ []
-ones-none zero h = refl
-ones-none (suc n) h = absurd (omega arith)
-
-module _ (s : List ℕ) (w : ℕ) (ws : List ℕ) (at : ℕ) {b : Bool} (all : End) (i : endOf s (w ∷ ws) at ≡ all) (e : b ≡ blockFits w (drop at s)) where
-  ends-short : not b ≡ true → Short ≡ all
-  unfolding endOf
-  ends-short h = rw (← e, endOf, not-true b h) at i
-
-  ends-next : (next : ℕ) → not b ≡ false → at ≤ length s → drop next s ≡ drop (blockLength w (drop at s)) (drop at s) → next ≤ length s
-      → endOf s ws next ≡ all
-  unfolding endOf
-  ends-next next h a q l =
-      let f : blockFits w (drop at s) ≡ true = sym e ∙ not-false b h in
-      rw (end-exact s at w next a f q l) (rw (f, endOf) at i)
-
-module _ (s : List ℕ) (at left : ℕ) (all : End) where
-  abbrev pub TypesLeft : Type 0
-  TypesLeft = endOf s (replicate left 1) at ≡ all
-
-  pub types-none : TypesLeft → left ≤ 0 → At at ≡ all
-  unfolding endOf
-  types-none i h = rw (ones-none left h) at i
-
-  module _ {b : Bool} (i : TypesLeft) (h : 0 < left) (e : b ≡ blockFits 1 (drop at s)) where
-    more : endOf s (1 ∷ replicate (left - 1) 1) at ≡ all
-    more = rw (ones-more left h) at i
-
-    pub types-short : not b ≡ true → Short ≡ all
-    types-short = ends-short s 1 (replicate (left - 1) 1) at all more e
-
-    pub types-more : (next : ℕ) → not b ≡ false → at ≤ length s → drop next s ≡ drop (blockLength 1 (drop at s)) (drop at s)
-        → next ≤ length s
-        → endOf s (replicate (left - 1) 1) next ≡ all
-    types-more = ends-next s 1 (replicate (left - 1) 1) at all more e
-
--- the predicates left start at `pred` in the table
-module _ (t s : List ℕ) (pred at left : ℕ) (all : End) where
-  abbrev pub PredsLeft : Type 0
-  PredsLeft = endOf s (map predWidth (predsIn left (drop pred t))) at ≡ all
-
-  pub preds-end-none : PredsLeft → left ≤ 0 → At at ≡ all
-  unfolding endOf
-  preds-end-none i h = rw (preds-none left (drop pred t) h) at i
-
-  -- `v` is the number of roles, `w` the same as an index, `next` and `to` where the next predicate and its block start
-  module _ {v w : ℕ} {b : Bool} (i : PredsLeft) (h : 0 < left) (ev : v ≡ getD (drop pred t) 2 0) (ew : w ≡ v) (e : b ≡ blockFits w (drop at s)) where
-    more-preds : (next : ℕ) → next ≡ pred + predLength (drop pred t)
-        → endOf s (w ∷ map predWidth (predsIn (left - 1) (drop next t))) at ≡ all
-    more-preds next q =
-        let z : predWidth (predOf (drop pred t)) ≡ w = role-count (drop pred t) ∙ sym (ew ∙ ev) in
-        rw (← z) (rw (preds-more t pred left h q) at i)
-
-    pub preds-short : not b ≡ true → Short ≡ all
-    preds-short = ends-short s w _ at all (more-preds (pred + predLength (drop pred t)) refl) e
-
-    pub preds-end-more : (next to : ℕ) → not b ≡ false → at ≤ length s → drop to s ≡ drop (blockLength w (drop at s)) (drop at s)
-        → to ≤ length s
-        → next ≡ pred + predLength (drop pred t) → endOf s (map predWidth (predsIn (left - 1) (drop next t))) to ≡ all
-    preds-end-more next to n a q l z = ends-next s w _ at all (more-preds next z) e to n a q l
-
-pub preds-end-start : (t s : List ℕ) (pred from left : ℕ) → pred ≡ firstPredAt t → left ≡ predCount t
-    → endOf s (map predWidth (predsIn left (drop pred t))) from ≡ endOf s (map predWidth (diagramOf t .preds)) from
-unfolding diagramOf
-preds-end-start t s pred from left e f = rw (e, f)
-
--- ---- what stands behind so many types
-
-module _ (s : List ℕ) (at left : ℕ) (all : List ℕ) where
-  abbrev pub BehindLeft : Type 0
-  BehindLeft = behind (replicate left 1) (drop at s) ≡ all
-
-  pub behind-none : BehindLeft → left ≤ 0 → drop at s ≡ all
-  unfolding behind
-  behind-none i h = rw (ones-none left h) at i
-
-  pub behind-more : (next : ℕ) → BehindLeft → 0 < left → drop next s ≡ drop (blockLength 1 (drop at s)) (drop at s)
-      → behind (replicate (left - 1) 1) (drop next s) ≡ all
-  unfolding behind
-  behind-more next i h q = rw q (rw (ones-more left h) at i)
-
-pub types-count : (t : List ℕ) → length (diagramOf t .types) ≡ typeCount t
-unfolding diagramOf
-types-count t = each-length typeOf 6 (typeCount t) (drop 2 t)
-
-pub behind-all : (t s : List ℕ) (r : ℕ) {n : ℕ} → n ≡ typeCount t → drop r s ≡ behind (replicate n 1) s
-    → drop r s ≡ behindTypes (diagramOf t) s
-unfolding behindTypes
-behind-all t s r e h = rw (types-count t, ← e) h
+  pub fits-inside : {b : Bool} → not b ≡ false → b ≡ blockFits w (drop at s) → BlockHere s at w
+  fits-inside {b} h e = record { within = omega (arith, fits-length w (drop at s) (sym e ∙ not-false b h), length-drop at s) }
 
 -- ---- members
 
@@ -189,38 +78,6 @@ module _ (s : List ℕ) (at start : ℕ) {v i c : ℕ} (h : drop start s ≡ dro
 pub members-reached : (s : List ℕ) (start i : ℕ) {c : ℕ} → start ≤ length s → c ≡ min i (length s - start)
     → Reached s (record { start = start; step = 1; count = c })
 members-reached s start i {c} h g = record { apart = omega arith; narrow = omega arith; reach = omega (arith, mul-one c) }
-
-pub nothing-reached : (s : List ℕ) (c : Column) → c .count ≡ 0 → c .start ≡ 0 → c .step ≡ 1 → Reached s c
-nothing-reached s c n a w =
-    let z : c .count * c .step ≡ 0 = rw (n, zero-mul) in
-    record { apart = omega arith; narrow = omega arith; reach = omega arith }
-
-getD-members : (ts : List ObjectType) (i : ℕ) (s : List ℕ) → i < length ts
-    → getD (membersIn ts s) i [] ≡ membersAt (behind (replicate i 1) s)
-unfolding contents behind
-getD-members [] i s h = absurd (omega arith)
-getD-members (t ∷ ts) zero s h = refl
-getD-members (t ∷ ts) (suc i) s h = getD-members ts i (drop (blockLength 1 s) s) (omega arith)
-
-getD-no-members : (ts : List ObjectType) (i : ℕ) (s : List ℕ) → length ts ≤ i → getD (membersIn ts s) i [] ≡ []
-unfolding contents
-getD-no-members [] i s h = refl
-getD-no-members (t ∷ ts) zero s h = absurd (omega arith)
-getD-no-members (t ∷ ts) (suc i) s h = getD-no-members ts i (drop (blockLength 1 s) s) (omega arith)
-
-module _ (t s : List ℕ) (c : Column) (number : ℕ) {i n : ℕ} (e : i ≡ number - 1) (f : n ≡ typeCount t) where
-  pub members-of : (r : ℕ) → i < n → drop r s ≡ behind (replicate i 1) s → valuesIn s c ≡ membersAt (drop r s)
-      → valuesIn s c ≡ membersOf (populationAt (diagramOf t) s) number
-  unfolding membersOf populationAt
-  members-of r h q m =
-      let k : i < length (diagramOf t .types) = omega (arith, types-count t) in
-      m ∙ ap membersAt q ∙ sym (getD-members (diagramOf t .types) i s k) ∙ ap (λ (j : ℕ). getD (membersIn (diagramOf t .types) s) j []) e
-
-  pub members-of-none : n ≤ i → c .count ≡ 0 → valuesIn s c ≡ membersOf (populationAt (diagramOf t) s) number
-  unfolding membersOf populationAt spaced
-  members-of-none h q =
-      let k : length (diagramOf t .types) ≤ i = omega (arith, types-count t) in
-      rw (q, ← e) (sym (getD-no-members (diagramOf t .types) i s k))
 
 -- ---- rows and their columns
 

@@ -1,24 +1,24 @@
 -- Predicates of a valid table whose blocks are there whole, by positions.
 use Prim.Native.Nat.{ℕ, _+_, _*_, _-_, _≤_, _<_}
+use native.Mathlib.Nat.{add-zero}
 use native.Mathlib.Omega.{arith}
-use mathlib.Core.Path.{_≡_, refl}
-use mathlib.Core.List.{List, _∷_}
+use mathlib.Core.Path.{_≡_, refl, sym, ap, _∙_}
+use mathlib.Core.List.{List, _∷_, map}
 use lib.ListN.{length, getD, drop, length-drop}
+use lib.Seq.{drop-drop, getD-drop}
 use Rattle.counting.specs.Terms.{Each, Each2}
 use Rattle.counting.specs.Laws.Members.{each-head, each-tail}
 use Rattle.orm.specs.Diagram.{Predicate}
 use Rattle.orm.specs.Meaning.{Rows}
-use Rattle.orm.specs.Outcome.{accepted}
-use Rattle.orm.specs.Calls.{populationIn}
 use Rattle.orm.specs.Laws.Cells.{population-in-iff}
-use Rattle.table.specs.Positions.{predOf, predLength, predsIn, predCount, firstPredAt, diagramOf}
+use Rattle.table.specs.Positions.{predOf, predLength, predsIn, typeCount, predCount, firstPredAt, diagramOf}
 use Rattle.table.specs.Cursors.{Ahead}
 use Rattle.table.specs.Laws.Walks.{preds-more, ahead-start, ahead-here, ahead-more}
 use Rattle.table.specs.Laws.Valid.{valid-walkable}
-use Rattle.table.specs.Valid.{Valid}
 use Rattle.columns.specs.declared.Column.{Column}
 use Rattle.columns.specs.Reach.{Reached, wide-room}
-use Rattle.blocks.specs.Blocks.{blockLength, contents, predWidth, rowsAt, rowsIn, behindTypes, populationAt}
+use Rattle.blocks.specs.Blocks.{blockLength, contents, predWidth, rowsAt, rowsIn, populationAt, blockWidths}
+use Rattle.blocks.specs.Starts.{Populated, Located, widths-behind, block-next, starts-preds}
 use Rattle.blocks.specs.Places.{ColumnHere}
 
 -- The predicate at `pred` of the table is there and has few roles, and its rows at `at` of the cells have a cell for each
@@ -27,16 +27,13 @@ pub record PredHere (t s : List ℕ) (pred at : ℕ) : Type 0 where
   pub few : predWidth (predOf (drop pred t)) ≤ 6
   pub wide : Each (λ (row : List ℕ). length row ≡ predWidth (predOf (drop pred t))) (rowsAt (predWidth (predOf (drop pred t))) (drop at s))
 
--- So are the `n` predicates from `pred` of the table on, with their rows from `at` of the cells on
-pub record Standing (t s : List ℕ) (pred at n : ℕ) : Type 0 where
+-- So are the `n` predicates from `pred` of the table on, with their rows in the blocks from that with the number `k` on
+pub record Standing (t s starts : List ℕ) (pred k n : ℕ) : Type 0 where
+  pub located : Located t s starts
   pub ahead : Ahead t pred n
   pub few : Each (λ (p : Predicate). predWidth p ≤ 6) (predsIn n (drop pred t))
-  pub wide : Each2 Rows (predsIn n (drop pred t)) (rowsIn (predsIn n (drop pred t)) (drop at s))
-
--- A valid table, and cells that are cut whole
-pub record Populated (t s : List ℕ) : Type 0 where
-  pub valid : Valid t
-  pub whole : populationIn (diagramOf t) s ≡ accepted (populationAt (diagramOf t) s)
+  pub widths : drop k (blockWidths (diagramOf t)) ≡ map predWidth (predsIn n (drop pred t))
+  pub wide : Each2 Rows (predsIn n (drop pred t)) (rowsIn (predsIn n (drop pred t)) (drop (getD starts k 0) s))
 
 -- ---- the columns of such a predicate are there
 
@@ -54,40 +51,62 @@ column-reached t s pred at c {w} here e h =
 
 -- ---- the predicates left have few roles and whole rows
 
-module _ (t s : List ℕ) (pred at left : ℕ) (st : Standing t s pred at left) (h : 0 < left) where
-  pub standing-here : PredHere t s pred at
+module _ (t s starts : List ℕ) (pred k n : ℕ) (st : Standing t s starts pred k n) (h : 0 < n) where
+  pub standing-here : {at : ℕ} → at ≡ getD starts k 0 → PredHere t s pred at
   unfolding contents
-  standing-here =
-      let few : Each (λ (p : Predicate). predWidth p ≤ 6) (predOf (drop pred t) ∷ predsIn (left - 1) (drop (pred + predLength (drop pred t)) t)) =
-      rw (preds-more t pred left h refl) at (st .few) in
-      let wide = rw (preds-more t pred left h refl) at (st .wide) in
+  standing-here e =
+      let few : Each (λ (p : Predicate). predWidth p ≤ 6) (predOf (drop pred t) ∷ predsIn (n - 1) (drop (pred + predLength (drop pred t)) t)) =
+      rw (preds-more t pred n h refl) at (st .few) in
+      let wide = rw (preds-more t pred n h refl) at (st .wide) in
       record {
-        inside = ahead-here t pred left (st .ahead) h;
+        inside = ahead-here t pred n (st .ahead) h;
         few = each-head _ few;
-        wide = wide .0;
+        wide = rw e (wide .0);
       }
 
   pub standing-inside : pred + predLength (drop pred t) ≤ length t
-  standing-inside = ahead-here t pred left (st .ahead) h
+  standing-inside = ahead-here t pred n (st .ahead) h
 
-  pub standing-more : (next to : ℕ) {w : ℕ} → w ≡ predWidth (predOf (drop pred t)) → next ≡ pred + predLength (drop pred t)
-      → drop to s ≡ drop (blockLength w (drop at s)) (drop at s) → Standing t s next to (left - 1)
+  -- the width of the block here, and of those behind it
+  widths-here : (next : ℕ) → next ≡ pred + predLength (drop pred t)
+      → drop k (blockWidths (diagramOf t)) ≡ predWidth (predOf (drop pred t)) ∷ map predWidth (predsIn (n - 1) (drop next t))
+  widths-here next q = st .widths ∙ ap (map predWidth) (preds-more t pred n h q)
+
+  -- the next block starts where this one ends
+  pub standing-next : drop (getD starts (k + 1) 0) s
+      ≡ drop (blockLength (predWidth (predOf (drop pred t))) (drop (getD starts k 0) s)) (drop (getD starts k 0) s)
+  standing-next =
+      let here = widths-here (pred + predLength (drop pred t)) refl in
+      block-next (st .located) k _
+      (omega (arith, length-drop k (blockWidths (diagramOf t)), ap length here))
+      (ap (λ (i : ℕ). getD (blockWidths (diagramOf t)) i 0) (sym (add-zero k)) ∙ sym (getD-drop k (blockWidths (diagramOf t)) 0 0) ∙ ap (λ (ws : List ℕ). getD ws 0 0) here)
+
+  pub standing-more : (next : ℕ) → next ≡ pred + predLength (drop pred t) → Standing t s starts next (k + 1) (n - 1)
   unfolding contents
-  standing-more next to f q z =
-      let few : Each (λ (p : Predicate). predWidth p ≤ 6) (predOf (drop pred t) ∷ predsIn (left - 1) (drop next t)) =
-      rw (preds-more t pred left h q) at (st .few) in
-      let wide = rw (preds-more t pred left h q) at (st .wide) in
-      record { ahead = ahead-more t pred left (st .ahead) h q; few = each-tail _ few; wide = rw (z, f) (wide .1) }
+  standing-more next q =
+      let few : Each (λ (p : Predicate). predWidth p ≤ 6) (predOf (drop pred t) ∷ predsIn (n - 1) (drop next t)) =
+      rw (preds-more t pred n h q) at (st .few) in
+      let wide = rw (preds-more t pred n h q) at (st .wide) in
+      record {
+        located = st .located;
+        ahead = ahead-more t pred n (st .ahead) h q;
+        few = each-tail _ few;
+        widths = sym (drop-drop 1 k (blockWidths (diagramOf t))) ∙ ap (drop 1) (widths-here next q);
+        wide = rw standing-next (wide .1);
+      }
 
-pub standing-start : (t s : List ℕ) (pred at left : ℕ) → Populated t s → pred ≡ firstPredAt t → left ≡ predCount t
-    → drop at s ≡ behindTypes (diagramOf t) s
-    → Standing t s pred at left
+-- `m` is the number of types, and `k` the same as an index
+pub standing-start : (t s starts : List ℕ) (pred k n : ℕ) {m : ℕ} → Populated t s → Located t s starts → pred ≡ firstPredAt t → n ≡ predCount t
+    → m ≡ typeCount t → k ≡ m → Standing t s starts pred k n
 unfolding diagramOf populationAt
-standing-start t s pred at left j e f q =
+standing-start t s starts pred k n j l e g q r =
+    let f : k ≡ typeCount t = r ∙ q in
     let shaped = population-in-iff (diagramOf t) s (populationAt (diagramOf t) s) .0 (j .whole) .1 in
     let formed = j .valid .formed .preds in
     record {
-      ahead = ahead-start t (valid-walkable (j .valid)) e f;
-      few = rw (e, f) (λ p m. formed p m .arity .1);
-      wide = rw (e, f, q) (shaped .preds);
+      located = l;
+      ahead = ahead-start t (valid-walkable (j .valid)) e g;
+      few = rw (e, g) (λ p m. formed p m .arity .1);
+      widths = rw (f, widths-behind t, e, g);
+      wide = rw (e, g, f, starts-preds l) (shaped .preds);
     }

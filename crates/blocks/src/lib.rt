@@ -3,21 +3,21 @@ use columns::Column;
 use columns::Rows;
 ghost use mathlib.Core.Path.{_≡_};
 ghost use mathlib.Core.List.{map};
-ghost use Prim.Native.Nat.{_+_, _*_, _-_, _≤_, _<_, min};
+ghost use Prim.Native.Nat.{_+_, _*_, _≤_, _<_, min};
 ghost use lib.ListN.{length, getD, drop, replicate};
+ghost use lib.Seq.{sets};
 ghost use Rattle.counting.specs.Lists.{column};
 ghost use Rattle.orm.specs.Calls.{populationIn};
-ghost use Rattle.orm.specs.Constraints.{membersOf};
-ghost use Rattle.table.specs.Positions.{diagramOf, predOf, Walkable};
+ghost use Rattle.table.specs.Positions.{typeCount, diagramOf, predOf, Walkable};
 ghost use Rattle.columns.specs.Values.{valuesIn};
 ghost use Rattle.columns.specs.Reach.{Reached};
-ghost use Rattle.blocks.specs.Blocks.{blockLength, blockFits, membersAt, rowsAt, behind, behindTypes, populationAt, predWidth, endOf, extentOf};
-ghost use Rattle.blocks.specs.Cuts.{TypesEnd};
-ghost use Rattle.blocks.specs.Places.{RowsHere, ColumnHere};
-ghost use Rattle.blocks.specs.Columns.{startOf, membersColumn, predRows, roleColumn, typeColumn};
+ghost use Rattle.blocks.specs.Blocks.{blockLength, blockFits, membersAt, rowsAt, populationAt, predWidth, blockWidths, startsOf, writtenOver, extentOf};
+ghost use Rattle.blocks.specs.Cuts.{TypesEnd, PredsEnd};
+ghost use Rattle.blocks.specs.Places.{BlockHere, RowsHere, ColumnHere};
+ghost use Rattle.blocks.specs.Walks.{thenStarts};
 
 // Where blocks end, or that one is short.
-pub enum End {
+enum End {
     At(usize),
     Short,
 }
@@ -48,59 +48,78 @@ fn block_fits(cells: &[u32], at: usize, width: usize) -> bool
     block_size(cells, at, width) <= cells.len() - at - 1
 }
 
-// Where the block at `at` ends, and no further than the cells.
-pub fn block_end(cells: &[u32], at: usize, width: usize) -> usize
+// Where the block at `at` ends, which is there whole.
+fn block_end(cells: &[u32], at: usize, width: usize) -> usize
     requires { ⌜ width ≤ 999999 ⌝ }
-    ensures { λ r. ⌜ drop r (now (cells .entry)) ≡ drop (blockLength width (drop at (now (cells .entry)))) (drop at (now (cells .entry))) ⌝ }
-    ensures { λ r. ⌜ r ≤ length (now (cells .entry)) ⌝ }
-    ensures { λ r. ⌜ r ≡ min (at + blockLength width (drop at (now (cells .entry)))) (length (now (cells .entry))) ⌝ }
+    requires { ⌜ BlockHere (now cells) at width ⌝ }
+    ensures { λ r. ⌜ r ≡ at + blockLength width (drop at (now (cells .entry))) ⌝ }
 {
-    columns::next(cells, at, 1 + block_size(cells, at, width))
+    at + 1 + block_size(cells, at, width)
 }
 
-fn types_end(cells: &[u32], types: u32) -> End
-    ensures { λ r. ⌜ r ≡ endOf (now (cells .entry)) (replicate types 1) 0 ⌝ }
+// Where the types' blocks end. Their starts are written, up to and with the first block that is not there whole.
+fn types_end(t: &[u32], cells: &[u32], starts: &mut [usize]) -> End
+    requires { ⌜ Walkable (now t) ⌝ }
+    requires { ⌜ length (now starts) ≡ 65 ⌝ }
+    ensures { λ r. ⌜ TypesEnd (diagramOf (now (t .entry))) (now (cells .entry)) r ⌝ }
+    ensures { λ r.
+        ⌜ thenStarts (now (cells .entry)) (map predWidth (diagramOf (now (t .entry)) .preds)) (typeCount (now (t .entry))) (now (starts .exit)) r
+        ≡ sets (now (starts .entry)) 0 (startsOf (now (cells .entry)) (blockWidths (diagramOf (now (t .entry)))) 0) ⌝ }
 {
     let mut at = 0;
-    let mut left = types;
+    let mut i: usize = 0;
+    let mut left = table::type_count(t);
     while 0 < left {
+        starts[i] = at;
         if !block_fits(cells, at, 1) {
             return End::Short;
         }
         at = block_end(cells, at, 1);
+        i += 1;
         left -= 1;
     }
     End::At(at)
 }
 
-// Where the predicates' blocks end that start at `from`.
-fn preds_end(t: &[u32], cells: &[u32], from: usize) -> End
+// Where the predicates' blocks end that start at `from`. Their starts are written too, and the end behind the last.
+fn preds_end(t: &[u32], cells: &[u32], from: usize, starts: &mut [usize]) -> End
     requires { ⌜ Walkable (now t) ⌝ }
-    requires { ⌜ from ≤ length (now cells) ⌝ }
-    ensures { λ r. ⌜ r ≡ endOf (now (cells .entry)) (map predWidth (diagramOf (now (t .entry)) .preds)) from ⌝ }
+    requires { ⌜ length (now starts) ≡ 65 ⌝ }
+    ensures { λ r. ⌜ PredsEnd (diagramOf (now (t .entry))) (now (cells .entry)) from r ⌝ }
+    ensures { λ _.
+        ⌜ now (starts .exit)
+        ≡ sets (now (starts .entry)) (typeCount (now (t .entry))) (startsOf (now (cells .entry)) (map predWidth (diagramOf (now (t .entry)) .preds)) from) ⌝ }
 {
     let mut pred = table::first_pred(t);
     let mut left = table::pred_count(t);
+    let mut k = columns::index(table::type_count(t));
     let mut at = from;
     while 0 < left {
+        starts[k] = at;
         let width = columns::index(table::number(t, pred, 2));
         if !block_fits(cells, at, width) {
             return End::Short;
         }
         at = block_end(cells, at, width);
         pred = table::next_pred(t, pred);
+        k += 1;
         left -= 1;
     }
+    starts[k] = at;
     End::At(at)
 }
 
-// The extent, where the types' blocks end at `from`.
-fn rest_extent(t: &[u32], cells: &[u32], from: usize) -> Extent
+// The extent, where the types' blocks end at `from`; the starts of the predicates' blocks are written.
+fn rest_extent(t: &[u32], cells: &[u32], from: usize, starts: &mut [usize]) -> Extent
     requires { ⌜ Walkable (now t) ⌝ }
     requires { ⌜ TypesEnd (diagramOf (now t)) (now cells) (End.At from) ⌝ }
+    requires { ⌜ length (now starts) ≡ 65 ⌝ }
     ensures { λ r. ⌜ populationIn (diagramOf (now (t .entry))) (now (cells .entry)) ≡ extentOf (populationAt (diagramOf (now (t .entry))) (now (cells .entry))) r ⌝ }
+    ensures { λ _.
+        ⌜ now (starts .exit)
+        ≡ sets (now (starts .entry)) (typeCount (now (t .entry))) (startsOf (now (cells .entry)) (map predWidth (diagramOf (now (t .entry)) .preds)) from) ⌝ }
 {
-    match preds_end(t, cells, from) {
+    match preds_end(t, cells, from, starts) {
         End::Short => Extent::Broken { at: cells.len() },
         End::At(end) => {
             if end < cells.len() {
@@ -112,38 +131,37 @@ fn rest_extent(t: &[u32], cells: &[u32], from: usize) -> Extent
     }
 }
 
-// Whether the cells are cut whole by the size cells, or where they end early or run on.
-pub fn cut(t: &[u32], cells: &[u32]) -> Extent
+// Room for the starts of 64 blocks and the end.
+pub fn scratch() -> [usize; 65]
+    ensures { λ r. ⌜ r ≡ replicate 65 0 ⌝ }
+{
+    [0; 65]
+}
+
+// Whether the cells are cut whole by the size cells, or where they end early or run on. The start of each block is written, the
+// types' and then the predicates', up to and with the first that is not there whole, and the end where all are.
+pub fn cut(t: &[u32], cells: &[u32], starts: &mut [usize]) -> Extent
     requires { ⌜ Walkable (now t) ⌝ }
+    requires { ⌜ length (now starts) ≡ 65 ⌝ }
     ensures { λ r. ⌜ populationIn (diagramOf (now (t .entry))) (now (cells .entry)) ≡ extentOf (populationAt (diagramOf (now (t .entry))) (now (cells .entry))) r ⌝ }
+    ensures { λ _.
+        ⌜ now (starts .exit)
+        ≡ writtenOver (startsOf (now (cells .entry)) (blockWidths (diagramOf (now (t .entry)))) 0) (now (starts .entry)) ⌝ }
 {
-    match types_end(cells, table::type_count(t)) {
+    match types_end(t, cells, starts) {
         End::Short => Extent::Broken { at: cells.len() },
-        End::At(from) => rest_extent(t, cells, from),
+        End::At(from) => rest_extent(t, cells, from, starts),
     }
 }
 
-// Where the block behind the first `types` types starts.
-fn behind(cells: &[u32], types: u32) -> usize
-    ensures { λ r. ⌜ drop r (now (cells .entry)) ≡ behind (replicate types 1) (now (cells .entry)) ⌝ }
-    ensures { λ r. ⌜ r ≤ length (now (cells .entry)) ⌝ }
+// Where the block with this number starts, counted from 0; 0 past the end.
+pub fn block(starts: &[usize], i: usize) -> usize
+    ensures { λ r. ⌜ r ≡ getD (now (starts .entry)) i 0 ⌝ }
 {
-    let mut at = 0;
-    let mut left = types;
-    while 0 < left {
-        at = block_end(cells, at, 1);
-        left -= 1;
+    if starts.len() <= i {
+        return 0;
     }
-    at
-}
-
-// Where the first predicate's block starts.
-pub fn first_rows(t: &[u32], cells: &[u32]) -> usize
-    requires { ⌜ Walkable (now t) ⌝ }
-    ensures { λ r. ⌜ drop r (now (cells .entry)) ≡ behindTypes (diagramOf (now (t .entry))) (now (cells .entry)) ⌝ }
-    ensures { λ r. ⌜ r ≡ startOf (now (cells .entry)) (behindTypes (diagramOf (now (t .entry))) (now (cells .entry))) ⌝ }
-{
-    behind(cells, table::type_count(t))
+    starts[i]
 }
 
 fn smaller(a: usize, b: usize) -> usize
@@ -157,7 +175,6 @@ pub fn members(cells: &[u32], at: usize) -> Column
     ensures { λ r. ⌜ valuesIn (now (cells .entry)) r ≡ membersAt (drop at (now (cells .entry))) ⌝ }
     ensures { λ r. ⌜ r .count ≡ length (membersAt (drop at (now (cells .entry)))) ⌝ }
     ensures { λ r. ⌜ Reached (now (cells .entry)) r ⌝ }
-    ensures { λ r. ⌜ r ≡ membersColumn (now (cells .entry)) (drop at (now (cells .entry))) ⌝ }
 {
     let start = columns::next(cells, at, 1);
     let size = columns::index(columns::cell(cells, at, 0));
@@ -169,43 +186,9 @@ pub fn members(cells: &[u32], at: usize) -> Column
     }
 }
 
-fn before(number: u32) -> u32
-    ensures { λ r. ⌜ r ≡ number - 1 ⌝ }
-{
-    if 0 < number { number - 1 } else { 0 }
-}
-
-fn nothing() -> Column
-    ensures { λ r. ⌜ r .count ≡ 0 ⌝ }
-    ensures { λ r. ⌜ r .start ≡ 0 ⌝ }
-    ensures { λ r. ⌜ r .step ≡ 1 ⌝ }
-{
-    Column {
-        start: 0,
-        step: 1,
-        count: 0,
-    }
-}
-
-// The members of the type with this number.
-pub fn members_of(t: &[u32], cells: &[u32], number: u32) -> Column
-    requires { ⌜ Walkable (now t) ⌝ }
-    ensures { λ r. ⌜ valuesIn (now (cells .entry)) r ≡ membersOf (populationAt (diagramOf (now (t .entry))) (now (cells .entry))) number ⌝ }
-    ensures { λ r. ⌜ Reached (now (cells .entry)) r ⌝ }
-    ensures { λ r. ⌜ r ≡ typeColumn (diagramOf (now (t .entry))) (now (cells .entry)) number ⌝ }
-{
-    let i = before(number);
-    if i < table::type_count(t) {
-        members(cells, behind(cells, i))
-    } else {
-        nothing()
-    }
-}
-
 // The rows of the predicate whose block starts at `at`.
 pub fn rows(cells: &[u32], at: usize, width: usize) -> Rows
     ensures { λ r. ⌜ RowsHere (now (cells .entry)) at width r ⌝ }
-    ensures { λ r. ⌜ r ≡ predRows (now (cells .entry)) (drop at (now (cells .entry))) width ⌝ }
 {
     let start = columns::next(cells, at, 1);
     let count = columns::index(columns::cell(cells, at, 0));
@@ -221,7 +204,6 @@ pub fn column(cells: &[u32], at: usize, width: usize, j: usize) -> Column
     requires { ⌜ j < width ⌝ }
     ensures { λ r. ⌜ valuesIn (now (cells .entry)) r ≡ column j (rowsAt width (drop at (now (cells .entry)))) ⌝ }
     ensures { λ r. ⌜ ColumnHere (now (cells .entry)) at width r ⌝ }
-    ensures { λ r. ⌜ r ≡ roleColumn (now (cells .entry)) (drop at (now (cells .entry))) width j ⌝ }
 {
     let first = columns::next(cells, at, 1);
     let start = columns::next(cells, first, j);

@@ -1,6 +1,5 @@
 pub mod Values
 pub mod Walks
 pub mod Differ
-pub mod Passes
 pub mod Single
 pub mod Reach

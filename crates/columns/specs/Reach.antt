@@ -2,17 +2,15 @@
 use Prim.Native.Nat.{ℕ, zero, suc, _+_, _*_, _-_, _≤_, _<_}
 use native.Mathlib.Nat.{suc-mul, mul-le-mul-right}
 use native.Mathlib.Omega.{arith}
-use mathlib.Core.Path.{_≡_, ap, subst⁻¹, _∙_}
+use mathlib.Core.Path.{_≡_, ap, _∙_}
 use mathlib.Core.List.{List, [], _∷_}
 use lib.ListN.{length, getD, take, drop, length-take, length-drop}
 use Rattle.counting.specs.Terms.{Each}
 use Rattle.counting.specs.Laws.Members.{each-head, each-tail, each-cons, each-nil, getD-in}
-use Rattle.counting.specs.Lists.{upFrom}
-use Rattle.counting.specs.Laws.Range.{of-upFrom}
 use Rattle.orm.specs.Population.{rowsOf}
 use Rattle.columns.specs.declared.Column.{Column}
 use Rattle.columns.specs.declared.Rows.{Rows}
-use Rattle.columns.specs.Differ.{Wide, rowsHeld, in-order}
+use Rattle.columns.specs.Differ.{Wide, rowsHeld}
 
 -- Where the rows end, and where the next value would stand
 abbrev pub endOfRows : Rows → ℕ
@@ -50,6 +48,11 @@ module _ (s js : List ℕ) (width at i : ℕ) {k : ℕ} (h : Held s width js at)
   pub held-inside : at + k < length s
   held-inside = rw e (h .each _ (getD-in js i 0 l) .1)
 
+pub each-take : {A : Type 0} (P : A → Type 0) (n : ℕ) (l : List A) → Each P l → Each P (take n l)
+each-take P zero l e = each-nil P
+each-take P (suc n) [] e = each-nil P
+each-take P (suc n) (x ∷ l) e = each-cons P (each-head P e) (each-take P n l (each-tail P e))
+
 times-more : (n w : ℕ) → 0 < n → n * w ≡ (n - 1) * w + w
 times-more zero w h = absurd (omega arith)
 times-more (suc n) w h = let q : n ≡ suc n - 1 = omega arith in suc-mul n w ∙ ap (λ (m : ℕ). m * w + w) q
@@ -64,6 +67,10 @@ module _ (s : List ℕ) (r : Rows) (js : List ℕ) (k : Keyed s r js) where
 
   pub keyed-start : r .start ≤ length s + 4096
   keyed-start = omega (arith, k .room, k .narrow)
+
+  -- as far as the first n of the columns
+  pub front-keyed : (n : ℕ) → Keyed s r (take n js)
+  front-keyed n = record { narrow = k .narrow; room = k .room; each = each-take _ n js (k .each) }
 
   module _ (at left : ℕ) (h : 0 < left) (e : at + left * r .width ≡ endOfRows r) where
     pub left-held : Held s (r .width) js at
@@ -103,13 +110,6 @@ rows-keyed s r js n h w c =
     let cells : r .count * r .width ≤ length (drop (r .start) s) = wide-room (r .count) (r .width) (drop (r .start) s) (w .each) in
     let room : r .start + r .count * r .width ≤ length s = omega (arith, length-drop (r .start) s) in
     record { narrow = omega arith; room = omega arith; each = λ j m. (c .each j m, omega (arith, c .each j m)) }
-
--- all columns of up to six
-pub all-keyed : (s : List ℕ) (r : Rows) (js : List ℕ) → r .width ≤ 6 → r .start ≤ length s → Wide (r .width) (rowsHeld s r)
-    → js ≡ take (r .width) (0 ∷ 1 ∷ 2 ∷ 3 ∷ 4 ∷ 5 ∷ []) → Keyed s r js
-all-keyed s r js n h w e =
-    let c : Each (λ (j : ℕ). j < r .width) (upFrom 0 (r .width)) = λ j m. omega (arith, of-upFrom 0 (r .width) m .1) in
-    rows-keyed s r js n h w (record { each = subst⁻¹ (Each (λ (j : ℕ). j < r .width)) (e ∙ in-order (r .width) n) c })
 
 -- ---- a column as rows
 

@@ -1,15 +1,15 @@
--- The elements of a list differ just where each occurs once, and a map that tells them apart keeps that.
+-- The elements of a list differ just where each occurs once, and where their images under a map that tells them apart do.
 use Prim.Native.Nat.{_≤_}
 use mathlib.Core.Path.{_≡_, refl, ap}
-use mathlib.Core.Logic.{_↔_}
+use mathlib.Core.Logic.{_↔_, Iff·trans, Iff·symm}
 use mathlib.Core.Bool.{Bool}
-use mathlib.Core.List.{List, [], _∷_, map, List·Memᴰ·head as here, List·Memᴰ·tail as there}
+use mathlib.Core.List.{List, [], _∷_, map, List·Memᴰ·head as here, List·Memᴰ·tail as there, Memᴰ·map}
 use native.Mathlib.Omega.{arith}
 use Rattle.counting.specs.Totals.{bit}
-use Rattle.counting.specs.Distinct.{member, occurrences, allDiffer}
-use Rattle.counting.specs.Terms.{Decides, _∈_, Each, NoRepeats}
-use Rattle.counting.specs.Laws.Members.{apart}
-use Rattle.counting.specs.Laws.Distinct.{occurrences-cons, occurrences-absent, eq-apart}
+use Rattle.counting.specs.Distinct.{occurrences, allDiffer}
+use Rattle.counting.specs.Terms.{Decides, _∈_, Each, NoRepeats, InjectiveOn}
+use Rattle.counting.specs.Laws.Members.{apart, no-repeats-map}
+use Rattle.counting.specs.Laws.Distinct.{bool-ext, allDiffer-decides, occurrences-cons, occurrences-absent, eq-apart}
 
 module _ {A : Type 0} {eq : A → A → Bool} (decides : Decides eq) where
   pub occurs : {a : A} {xs : List A} → a ∈ xs → 1 ≤ occurrences eq a xs
@@ -41,14 +41,14 @@ module _ {A : Type 0} {eq : A → A → Bool} (decides : Decides eq) where
   pub no-repeats-iff-once : (xs : List A) → NoRepeats xs ↔ Each (λ a. occurrences eq a xs ≤ 1) xs
   no-repeats-iff-once xs = (λ n a m. occurs-once n m, once-differ xs)
 
--- An image under a map that keeps the test
-module _ {A B : Type 0} (eqA : A → A → Bool) (eqB : B → B → Bool) (f : A → B) (keeps : (a b : A) → eqB (f a) (f b) ≡ eqA a b) where
-  member-map : (a : A) (xs : List A) → member eqB (f a) (map f xs) ≡ member eqA a xs
-  unfolding member
-  member-map a [] = refl
-  member-map a (x ∷ xs) = rw (keeps a x, member-map a xs)
+-- An image under a map that tells the elements apart
+module _ {A B : Type 0} {eqA : A → A → Bool} {eqB : B → B → Bool} (decidesA : Decides eqA) (decidesB : Decides eqB) (f : A → B) where
+  no-repeats-of : (xs : List A) → NoRepeats (map f xs) → NoRepeats xs
+  no-repeats-of [] n = tt
+  no-repeats-of (x ∷ xs) n = (λ m. n .0 (Memᴰ·map f m), no-repeats-of xs (n .1))
 
-  pub allDiffer-map : (xs : List A) → allDiffer eqB (map f xs) ≡ allDiffer eqA xs
-  unfolding allDiffer
-  allDiffer-map [] = refl
-  allDiffer-map (x ∷ xs) = rw (member-map x xs, allDiffer-map xs)
+  pub allDiffer-map : (xs : List A) → InjectiveOn f xs → allDiffer eqB (map f xs) ≡ allDiffer eqA xs
+  allDiffer-map xs inj =
+      bool-ext _ _
+      (Iff·trans (allDiffer-decides decidesB (map f xs))
+      (Iff·trans (no-repeats-of xs, no-repeats-map f xs inj) (Iff·symm (allDiffer-decides decidesA xs))))

@@ -43,15 +43,6 @@ module _ (s : List ℕ) (at step : ℕ) where
 -- ---- a cell of a row
 
 module _ (s : List ℕ) (at width j : ℕ) where
-  pub row-cell-past : width ≤ j → 0 ≡ getD (take width (drop at s)) j 0
-  row-cell-past h = sym (go width j (drop at s) h)
-    where
-      go : (w i : ℕ) (l : List ℕ) → w ≤ i → getD (take w l) i 0 ≡ 0
-      go zero i l h = refl
-      go (suc w) zero l h = absurd (omega arith)
-      go (suc w) (suc i) [] h = refl
-      go (suc w) (suc i) (x ∷ l) h = go w i l (omega arith)
-
   pub row-cell-here : {v : ℕ} → j < width → v ≡ getD (drop at s) j 0 → v ≡ getD (take width (drop at s)) j 0
   row-cell-here h e = e ∙ sym (getD-take width (drop at s) j 0 h)
 

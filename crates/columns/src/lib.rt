@@ -1,10 +1,10 @@
-// Tests of the columns and rows that stand in a slice of cells: members, sublists, different values, occurrences.
+// Tests of the columns and rows that stand in a slice of cells: ranges, occurrences, different values.
 ghost use mathlib.Core.Path.{_≡_};
 ghost use Prim.Native.Nat.{_+_, _≤_, _<_, min};
 ghost use lib.Dec.{eqb};
 ghost use lib.ListN.{length, getD, take, drop};
 ghost use Rattle.counting.specs.Lists.{same, combination};
-ghost use Rattle.counting.specs.Distinct.{all, member, distinct, occurrences, within};
+ghost use Rattle.counting.specs.Distinct.{all, occurrences, allDiffer};
 ghost use Rattle.counting.specs.Totals.{bit};
 ghost use Rattle.orm.specs.Form.{inRange, _to_};
 ghost use Rattle.columns.specs.Values.{valuesIn, keysIn, occurring};
@@ -68,41 +68,6 @@ pub fn value_at(s: &[u32], at: usize) -> u32
     s[at]
 }
 
-// x stands in the column.
-pub fn found(s: &[u32], column: Column, x: u32) -> bool
-    requires { ⌜ Reached (now s) column ⌝ }
-    ensures { λ r. ⌜ r ≡ member eqb x (valuesIn (now (s .entry)) column) ⌝ }
-{
-    let mut at = column.start;
-    let mut left = column.count;
-    while 0 < left {
-        if value_at(s, at) == x {
-            return true;
-        }
-        at += column.step;
-        left -= 1;
-    }
-    false
-}
-
-// Every value of the first column stands in the second.
-pub fn within(s: &[u32], column: Column, other: Column) -> bool
-    requires { ⌜ Reached (now s) column ⌝ }
-    requires { ⌜ Reached (now s) other ⌝ }
-    ensures { λ r. ⌜ r ≡ within eqb (valuesIn (now (s .entry)) column) (valuesIn (now (s .entry)) other) ⌝ }
-{
-    let mut at = column.start;
-    let mut left = column.count;
-    while 0 < left {
-        if !found(s, other, value_at(s, at)) {
-            return false;
-        }
-        at += column.step;
-        left -= 1;
-    }
-    true
-}
-
 pub fn in_range(low: u32, high: u32, x: usize) -> bool
     ensures { λ r. ⌜ r ≡ inRange (low to high) x ⌝ }
 {
@@ -134,28 +99,6 @@ fn bit(b: bool) -> usize
     ensures { λ r. ⌜ r ≤ 1 ⌝ }
 {
     if b { 1 } else { 0 }
-}
-
-// How many different values the column holds: each counts where it stands last.
-pub fn different(s: &[u32], column: Column) -> usize
-    requires { ⌜ Reached (now s) column ⌝ }
-    ensures { λ r. ⌜ r ≡ length (distinct eqb (valuesIn (now (s .entry)) column)) ⌝ }
-{
-    let mut at = column.start;
-    let mut left = column.count;
-    let mut n: usize = 0;
-    while 0 < left {
-        let x = value_at(s, at);
-        at += column.step;
-        left -= 1;
-        let rest = Column {
-            start: at,
-            step: column.step,
-            count: left,
-        };
-        n += bit(!found(s, rest, x));
-    }
-    n
 }
 
 // Cell j of the row of `width` cells that starts at `at`.
@@ -216,4 +159,18 @@ pub fn occurring(s: &[u32], rows: Rows, js: &[u32], low: u32, high: u32) -> bool
         left -= 1;
     }
     true
+}
+
+// The values of the column differ.
+pub fn differ(s: &[u32], column: Column) -> bool
+    requires { ⌜ Reached (now s) column ⌝ }
+    ensures { λ r. ⌜ r ≡ allDiffer eqb (valuesIn (now (s .entry)) column) ⌝ }
+{
+    let js = [0u32];
+    let rows = Rows {
+        start: column.start,
+        width: column.step,
+        count: column.count,
+    };
+    occurring(s, rows, &js, 1, 1)
 }

@@ -1,3 +1,4 @@
 pub mod Places
 pub mod Merges
+pub mod Listing
 pub mod Searches

@@ -1,2 +1,2 @@
-pub mod Searched
-pub mod Marking
+pub mod Joining
+pub mod Finding

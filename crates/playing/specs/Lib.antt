@@ -1,2 +1,3 @@
-pub mod Playing
-pub mod Marks
+pub mod Places
+pub mod Joined
+pub mod Found

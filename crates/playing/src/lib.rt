@@ -1,285 +1,218 @@
-// K10: each member of a type is in a role that the type plays.
-//
-// A pass over all roles marks the members that stand there, by their places in order. More than 4,096 members are searched one
-// by one.
+// What the roles that a type plays tell: K7, K8 and K11 of each, and which members stand in one. Each column is looked up once.
 use columns::Column;
+use lookup::Met;
 ghost use mathlib.Core.Path.{_≡_};
-ghost use Prim.Native.Nat.{_<_};
-ghost use lib.Dec.{eqb};
+ghost use mathlib.Core.Bool.{_&&_};
+ghost use mathlib.Core.List.{[], _∷_};
+ghost use Prim.Native.Nat.{_+_, _≤_, _<_};
 ghost use lib.ListN.{length, drop};
-ghost use Rattle.counting.specs.Distinct.{member, within};
+ghost use Rattle.faults.specs.Faults.{lowered};
 ghost use Rattle.table.specs.Positions.{wideRole, Walkable};
 ghost use Rattle.columns.specs.Values.{valuesIn};
 ghost use Rattle.columns.specs.Reach.{Reached};
-ghost use Rattle.order.specs.Values.{Sortable};
-ghost use Rattle.blocks.specs.Standing.{PredHere, Populated};
-ghost use Rattle.playing.specs.Playing.{inRole, inRoles, predAt, rowsHere, players};
-ghost use Rattle.playing.specs.Marks.{marked, allMarked, Markable, Unmarked, Noted, equalTo, among, amongRole, amongRoles};
+ghost use Rattle.lookup.specs.Counts.{Fresh};
+ghost use Rattle.blocks.specs.Standing.{PredHere};
+ghost use Rattle.blocks.specs.Starts.{Populated, Located};
+ghost use Rattle.playing.specs.Joined.{fillsBy, joinedBy, playedAs, JoinsOne, Joins, RolesJoin, toldOf};
+ghost use Rattle.playing.specs.Found.{Found};
 
-// x stands in the role at `role`, with the column `values`, and the type with this number plays it.
-fn in_role(t: &[u32], cells: &[u32], x: u32, number: u32, role: usize, values: Column) -> bool
-    requires { ⌜ Walkable (now t) ⌝ }
-    requires { ⌜ Reached (now cells) values ⌝ }
-    ensures { λ r. ⌜ r ≡ inRole x number (wideRole (drop role (now (t .entry)))) (valuesIn (now (cells .entry)) values) ⌝ }
-{
-    let player = table::field(t, role, 0);
-    if player != number {
-        return false;
-    }
-    columns::found(cells, values, x)
+// Whether the roles so far of a predicate that a type plays keep K7, K8 and K11, the last two told only of roles that keep K7; and
+// the stamp for the members in the next one.
+pub struct Kept {
+    pub stamp: u32,
+    pub within: bool,
+    pub filled: bool,
+    pub limited: bool,
 }
 
-// x stands in a role of the predicate that the type with this number plays.
-fn in_roles(t: &[u32], cells: &[u32], x: u32, number: u32, pred: usize, at: usize) -> bool
-    requires { ⌜ Walkable (now t) ⌝ }
-    requires { ⌜ PredHere (now t) (now cells) pred at ⌝ }
-    ensures { λ r. ⌜ r ≡ inRoles x number 0 (predAt (now (t .entry)) pred .roles) (rowsHere (now (t .entry)) (now (cells .entry)) pred at) ⌝ }
+fn both(a: bool, b: bool) -> bool
+    ensures { λ r. ⌜ r ≡ a && b ⌝ }
 {
-    let w = blocks::width(t, pred);
-    let mut role = table::roles_at(t, pred);
-    let mut j: usize = 0;
-    let mut left = w;
-    while 0 < left {
-        if in_role(t, cells, x, number, role, blocks::column(cells, at, w, j)) {
-            return true;
-        }
-        role += table::ROLE_WIDTH;
-        j += 1;
-        left -= 1;
+    if a {
+        return b;
     }
     false
 }
 
-// x stands in a role that the type with this number plays.
-fn in_preds(t: &[u32], cells: &[u32], x: u32, number: u32) -> bool
+// K8 of the role at `role`, of a type with `size` members, of which `count` stand in it.
+fn fills(t: &[u32], role: usize, count: usize, size: usize) -> bool
     requires { ⌜ Walkable (now t) ⌝ }
-    requires { ⌜ Populated (now t) (now cells) ⌝ }
-    ensures { λ r. ⌜ r ≡ member eqb x (players (now (t .entry)) (now (cells .entry)) number) ⌝ }
+    ensures { λ r. ⌜ r ≡ fillsBy (wideRole (drop role (now (t .entry)))) count size ⌝ }
 {
-    let mut pred = table::first_pred(t);
-    let mut at = blocks::first_rows(t, cells);
-    let mut left = table::pred_count(t);
-    while 0 < left {
-        if in_roles(t, cells, x, number, pred, at) {
-            return true;
-        }
-        at = blocks::block_end(cells, at, blocks::width(t, pred));
-        pred = table::next_pred(t, pred);
-        left -= 1;
+    if table::field(t, role, 1) != 1 {
+        return true;
     }
-    false
+    count == size
 }
 
-// Every value of the column does.
-fn all_play(t: &[u32], cells: &[u32], column: Column, number: u32) -> bool
+// What is kept with the role at `role`, in which members of the type, of `size`, were met.
+fn joined(t: &[u32], role: usize, size: usize, met: Met, kept: Kept) -> Kept
     requires { ⌜ Walkable (now t) ⌝ }
-    requires { ⌜ Populated (now t) (now cells) ⌝ }
-    requires { ⌜ Reached (now cells) column ⌝ }
-    ensures { λ r. ⌜ r ≡ within eqb (valuesIn (now (cells .entry)) column) (players (now (t .entry)) (now (cells .entry)) number) ⌝ }
+    requires { ⌜ kept .stamp < 4096 ⌝ }
+    ensures { λ r. ⌜ r ≡ joinedBy (wideRole (drop role (now (t .entry)))) size met kept ⌝ }
 {
-    let mut at = column.start;
-    let mut left = column.count;
-    while 0 < left {
-        if !in_preds(t, cells, columns::value_at(cells, at), number) {
-            return false;
-        }
-        at += column.step;
-        left -= 1;
+    if !met.all {
+        return Kept {
+            stamp: kept.stamp + 1,
+            within: false,
+            filled: kept.filled,
+            limited: kept.limited,
+        };
     }
-    true
-}
-
-// ---- by marks at the places of members in order
-
-// x is marked, if it is a member.
-fn mark(cells: &[u32], members: Column, list: &[u32], x: u32, marks: &mut [u32])
-    requires { ⌜ Markable (now cells) members (now list) (now marks) ⌝ }
-    ensures { λ _. ⌜ Noted (valuesIn (now (cells .entry)) members) (now (marks .entry)) (now (marks .exit)) (equalTo x) ⌝ }
-{
-    let i = order::place(cells, members, list, x);
-    if i < marks.len() {
-        marks[i] = 1;
+    let filled = fills(t, role, met.count, size);
+    let limited = columns::in_range(
+        table::field(t, role, 3),
+        table::field(t, role, 4),
+        met.count,
+    );
+    Kept {
+        stamp: kept.stamp + 1,
+        within: kept.within,
+        filled: both(kept.filled, filled),
+        limited: both(kept.limited, limited),
     }
 }
 
-// The members in the column `values` are marked.
-fn mark_values(cells: &[u32], values: Column, members: Column, list: &[u32], marks: &mut [u32])
-    requires { ⌜ Markable (now cells) members (now list) (now marks) ⌝ }
+// The column `values` of the role at `role`, which the type with the members `list` plays.
+fn join_role(
+    t: &[u32],
+    cells: &[u32],
+    role: usize,
+    values: Column,
+    list: &[u32],
+    marks: &mut [u32],
+    kept: Kept,
+) -> Kept
+    requires { ⌜ Walkable (now t) ⌝ }
+    requires { ⌜ kept .stamp < 4096 ⌝ }
     requires { ⌜ Reached (now cells) values ⌝ }
-    ensures { λ _.
-        ⌜ Noted (valuesIn (now (cells .entry)) members) (now (marks .entry)) (now (marks .exit))
-        (among (valuesIn (now (cells .entry)) values)) ⌝ }
+    requires { ⌜ Fresh (now list) (now marks) (kept .stamp) ⌝ }
+    ensures { λ r. ⌜ JoinsOne (now (list .entry)) (playedAs (wideRole (drop role (now (t .entry)))) (valuesIn (now (cells .entry)) values)) (now (marks .entry)) kept (now (marks .exit)) r ⌝ }
 {
-    let mut at = values.start;
-    let mut left = values.count;
-    while 0 < left {
-        mark(cells, members, list, columns::value_at(cells, at), marks);
-        at += values.step;
-        left -= 1;
-    }
+    let met = lookup::meet(cells, values, list, marks, kept.stamp);
+    joined(t, role, list.len(), met, kept)
 }
 
-// Those in the role at `role`, with the column `values`, where the type with this number plays it.
-fn mark_role(
+// So where the type with this number plays it.
+fn role_pass(
     t: &[u32],
     cells: &[u32],
     number: u32,
     role: usize,
     values: Column,
-    members: Column,
     list: &[u32],
     marks: &mut [u32],
-)
+    kept: Kept,
+) -> Kept
     requires { ⌜ Walkable (now t) ⌝ }
-    requires { ⌜ Markable (now cells) members (now list) (now marks) ⌝ }
+    requires { ⌜ kept .stamp < 4096 ⌝ }
     requires { ⌜ Reached (now cells) values ⌝ }
-    ensures { λ _.
-        ⌜ Noted (valuesIn (now (cells .entry)) members) (now (marks .entry)) (now (marks .exit))
-        (amongRole number (wideRole (drop role (now (t .entry)))) (valuesIn (now (cells .entry)) values)) ⌝ }
+    requires { ⌜ Fresh (now list) (now marks) (kept .stamp) ⌝ }
+    ensures { λ r. ⌜ Joins number (now (list .entry)) (playedAs (wideRole (drop role (now (t .entry)))) (valuesIn (now (cells .entry)) values) ∷ []) (now (marks .entry)) kept (now (marks .exit)) r ⌝ }
+    ensures { λ r. ⌜ r .stamp ≤ kept .stamp + 1 ⌝ }
 {
     if table::field(t, role, 0) != number {
-        return;
+        return kept;
     }
-    mark_values(cells, values, members, list, marks);
+    join_role(t, cells, role, values, list, marks, kept)
 }
 
-// Those in a role of the predicate that the type with this number plays.
-fn mark_roles(
+// The roles of the predicate at `pred`, with its block at `at`, that the type with this number plays.
+fn roles_pass(
     t: &[u32],
     cells: &[u32],
     number: u32,
     pred: usize,
     at: usize,
-    members: Column,
     list: &[u32],
     marks: &mut [u32],
-)
+    stamp: u32,
+) -> Kept
     requires { ⌜ Walkable (now t) ⌝ }
-    requires { ⌜ Markable (now cells) members (now list) (now marks) ⌝ }
+    requires { ⌜ stamp < 1024 ⌝ }
     requires { ⌜ PredHere (now t) (now cells) pred at ⌝ }
-    ensures { λ _.
-        ⌜ Noted (valuesIn (now (cells .entry)) members) (now (marks .entry)) (now (marks .exit))
-        (amongRoles number 0 (predAt (now (t .entry)) pred .roles) (rowsHere (now (t .entry)) (now (cells .entry)) pred at)) ⌝ }
+    requires { ⌜ Fresh (now list) (now marks) stamp ⌝ }
+    ensures { λ r. ⌜ RolesJoin (now (t .entry)) (now (cells .entry)) number pred at (now (list .entry)) (now (marks .entry)) stamp (now (marks .exit)) r ⌝ }
+    ensures { λ r. ⌜ r .stamp ≤ stamp + 6 ⌝ }
 {
     let w = blocks::width(t, pred);
     let mut role = table::roles_at(t, pred);
     let mut j: usize = 0;
     let mut left = w;
+    let mut kept = Kept {
+        stamp,
+        within: true,
+        filled: true,
+        limited: true,
+    };
     while 0 < left {
-        mark_role(
+        kept = role_pass(
             t,
             cells,
             number,
             role,
             blocks::column(cells, at, w, j),
-            members,
             list,
             marks,
+            kept,
         );
         role += table::ROLE_WIDTH;
         j += 1;
         left -= 1;
     }
+    kept
 }
 
-// Those in a role that the type with this number plays.
-fn mark_preds(
+// What is told of the predicate with this number.
+fn note_roles(kept: Kept, number: u32, lowest: &mut [u32])
+    requires { ⌜ length (now lowest) ≡ 12 ⌝ }
+    ensures { λ _. ⌜ now (lowest .exit) ≡ lowered (toldOf kept number) (now (lowest .entry)) ⌝ }
+{
+    faults::note(kept.within, 7, number, lowest);
+    faults::note(kept.filled, 8, number, lowest);
+    faults::note(kept.limited, 11, number, lowest);
+}
+
+// K7, K8 and K11 of the roles that the type with this number plays, in all predicates; `list` has its members in order, and those
+// that stand in a role are marked.
+pub fn preds_pass(
     t: &[u32],
     cells: &[u32],
+    starts: &[usize],
     number: u32,
-    members: Column,
     list: &[u32],
     marks: &mut [u32],
+    lowest: &mut [u32],
 )
     requires { ⌜ Walkable (now t) ⌝ }
-    requires { ⌜ Markable (now cells) members (now list) (now marks) ⌝ }
     requires { ⌜ Populated (now t) (now cells) ⌝ }
-    ensures { λ _.
-        ⌜ Noted (valuesIn (now (cells .entry)) members) (now (marks .entry)) (now (marks .exit))
-        (among (players (now (t .entry)) (now (cells .entry)) number)) ⌝ }
+    requires { ⌜ Located (now t) (now cells) (now starts) ⌝ }
+    requires { ⌜ Fresh (now list) (now marks) 1 ⌝ }
+    requires { ⌜ length (now lowest) ≡ 12 ⌝ }
+    ensures { λ _. ⌜ Found (now (t .entry)) (now (cells .entry)) number (now (list .entry)) (now (marks .entry)) (now (lowest .entry)) (now (marks .exit)) (now (lowest .exit)) ⌝ }
 {
     let mut pred = table::first_pred(t);
-    let mut at = blocks::first_rows(t, cells);
+    let mut k = table::index(table::type_count(t));
+    let mut own: u32 = 1;
+    let mut stamp: u32 = 1;
     let mut left = table::pred_count(t);
     while 0 < left {
-        mark_roles(t, cells, number, pred, at, members, list, marks);
-        at = blocks::block_end(cells, at, blocks::width(t, pred));
-        pred = table::next_pred(t, pred);
+        let next = table::next_pred(t, pred);
+        let kept = roles_pass(
+            t,
+            cells,
+            number,
+            pred,
+            blocks::block(starts, k),
+            list,
+            marks,
+            stamp,
+        );
+        note_roles(kept, own, lowest);
+        stamp = kept.stamp;
+        pred = next;
+        k += 1;
+        own += 1;
         left -= 1;
     }
-}
-
-// x is a member and is marked.
-fn is_marked(cells: &[u32], members: Column, list: &[u32], x: u32, marks: &[u32]) -> bool
-    requires { ⌜ Markable (now cells) members (now list) (now marks) ⌝ }
-    ensures { λ r. ⌜ r ≡ marked (valuesIn (now (cells .entry)) members) (now (marks .entry)) x ⌝ }
-{
-    let i = order::place(cells, members, list, x);
-    if marks.len() <= i {
-        return false;
-    }
-    marks[i] == 1
-}
-
-// Every member is marked.
-fn all_marked(cells: &[u32], members: Column, list: &[u32], marks: &[u32]) -> bool
-    requires { ⌜ Markable (now cells) members (now list) (now marks) ⌝ }
-    ensures { λ r. ⌜ r ≡ allMarked (valuesIn (now (cells .entry)) members) (now (marks .entry)) (valuesIn (now (cells .entry)) members) ⌝ }
-{
-    let mut at = members.start;
-    let mut left = members.count;
-    while 0 < left {
-        if !is_marked(cells, members, list, columns::value_at(cells, at), marks) {
-            return false;
-        }
-        at += members.step;
-        left -= 1;
-    }
-    true
-}
-
-// Every member plays, by a list and marks that are as many as the members.
-fn all_play_by(
-    t: &[u32],
-    cells: &[u32],
-    members: Column,
-    number: u32,
-    list: &mut [u32],
-    marks: &mut [u32],
-) -> bool
-    requires { ⌜ Walkable (now t) ⌝ }
-    requires { ⌜ Sortable (now cells) members ⌝ }
-    requires { ⌜ length (now list) ≡ members .count ⌝ }
-    requires { ⌜ Unmarked (now marks) (members .count) ⌝ }
-    requires { ⌜ Populated (now t) (now cells) ⌝ }
-    ensures { λ r. ⌜ r ≡ within eqb (valuesIn (now (cells .entry)) members) (players (now (t .entry)) (now (cells .entry)) number) ⌝ }
-{
-    order::sort_values(cells, members, list);
-    mark_preds(t, cells, number, members, list, marks);
-    all_marked(cells, members, list, marks)
-}
-
-fn all_play_sorted(t: &[u32], cells: &[u32], members: Column, number: u32) -> bool
-    requires { ⌜ Walkable (now t) ⌝ }
-    requires { ⌜ Sortable (now cells) members ⌝ }
-    requires { ⌜ Populated (now t) (now cells) ⌝ }
-    ensures { λ r. ⌜ r ≡ within eqb (valuesIn (now (cells .entry)) members) (players (now (t .entry)) (now (cells .entry)) number) ⌝ }
-{
-    let mut list = order::scratch();
-    let mut marks = order::scratch();
-    let n = members.count;
-    all_play_by(t, cells, members, number, &mut list[..n], &mut marks[..n])
-}
-
-// Every value of the column stands in a role that the type with this number plays.
-pub fn all_in_preds(t: &[u32], cells: &[u32], column: Column, number: u32) -> bool
-    requires { ⌜ Walkable (now t) ⌝ }
-    requires { ⌜ Populated (now t) (now cells) ⌝ }
-    requires { ⌜ Reached (now cells) column ⌝ }
-    ensures { λ r. ⌜ r ≡ within eqb (valuesIn (now (cells .entry)) column) (players (now (t .entry)) (now (cells .entry)) number) ⌝ }
-{
-    if order::is_sortable(column) {
-        return all_play_sorted(t, cells, column, number);
-    }
-    all_play(t, cells, column, number)
 }

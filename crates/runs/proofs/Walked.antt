@@ -7,17 +7,18 @@ use mathlib.Core.Bool.{Bool, true, false, _||_, _&&_, not}
 use mathlib.Core.List.{List, [], _∷_, map}
 use lib.Dec.{leb, ltb}
 use lib.ListN.{length, getD, take, drop, drop-of-length-le}
-use lib.Seq.{drop-cons, drop-drop}
+use lib.Seq.{drop-cons, drop-drop, length-take-le}
 use borrow.Author.Tests.{not-true, not-false, le-leb, lt-leb, ltb-false}
 use Rattle.counting.specs.Lists.{same, combination}
 use Rattle.counting.specs.Laws.Instances.{same-decides}
 use Rattle.sorting.specs.Runs.{runsFrom, runs}
 use Rattle.orm.specs.Form.{_to_, inRange}
 use Rattle.columns.specs.declared.Rows.{Rows}
-use Rattle.columns.specs.Reach.{Keyed}
+use Rattle.columns.specs.Reach.{Keyed, front-keyed}
 use Rattle.order.specs.Rows.{keyOf, rowOrder}
+use Rattle.order.specs.Parts.{Scratch}
 use Rattle.order.specs.Numbers.{Numbers, numbers-at, numbers-sorted}
-use Rattle.runs.specs.Runs.{runsBetween, runAfter, isCompared}
+use Rattle.runs.specs.Runs.{runsBetween, Ordered, runAfter, isCompared}
 
 pub same-rows : (s : List ℕ) (r : Rows) (js : List ℕ) (x y a b : ℕ) {t : Bool}
     → a ≡ r .start + x * r .width → b ≡ r .start + y * r .width
@@ -28,22 +29,22 @@ same-rows s r js x y a b p q e = rw (drop-drop (x * r .width) (r .start) s, drop
 
 -- ---- which rows are compared
 
-module _ (n : ℕ) where
-  pub compared-few : n ≤ 16 → true ≡ isCompared n
+module _ (room n : ℕ) where
+  pub compared-few : n ≤ 16 → true ≡ isCompared room n
   unfolding isCompared
   compared-few h = rw (le-leb n 16 h)
 
-  pub compared-many : 16 < n → ltb 4096 n ≡ isCompared n
+  pub compared-many : 16 < n → ltb room n ≡ isCompared room n
   unfolding isCompared
   compared-many h = rw (lt-leb n 16 h)
 
-  pub sorted-few : {b : Bool} → b ≡ isCompared n → b ≡ false → n ≤ 4096
+  pub sorted-few : {b : Bool} → b ≡ isCompared room n → b ≡ false → n ≤ room
   unfolding isCompared
   sorted-few e f = go (leb n 16) (sym e ∙ f)
     where
-      go : (c : Bool) → (c || ltb 4096 n) ≡ false → n ≤ 4096
+      go : (c : Bool) → (c || ltb room n) ≡ false → n ≤ room
       go true q = let z : _≡_ {A = ℕ} 0 1 = cc in absurd (omega arith)
-      go false q = ltb-false 4096 n q
+      go false q = ltb-false room n q
 
 -- ---- row numbers in the list
 
@@ -51,8 +52,18 @@ module _ (s : List ℕ) (rows : Rows) (js list : List ℕ) where
   pub first-below : {x : ℕ} → Numbers s rows js list → ¬ (length list ≡ 0) → x ≡ getD list 0 0 → x < rows .count
   first-below h n e = numbers-at s rows js list 0 h (omega arith) e
 
-  pub all-numbers : (n : ℕ) → Keyed s rows js → n ≡ rows .count → list ≡ rowOrder s rows js n → Numbers s rows js list
-  all-numbers n k h e = numbers-sorted s rows js list n k (omega arith) e
+  pub ordered : (before spare : List ℕ) → Scratch before spare → Keyed s rows js → length before ≡ rows .count
+      → list ≡ rowOrder s rows js (length before) → length list ≡ length before → Ordered s rows js list
+  ordered before spare h k e q l = record { keyed = k; few = omega (arith, h .few); order = q ∙ ap (rowOrder s rows js) e }
+
+  pub ordered-numbers : Ordered s rows js list → Numbers s rows js list
+  ordered-numbers o = numbers-sorted s rows js list (rows .count) (o .keyed) (omega arith) (o .order)
+
+  pub front-numbers : (n : ℕ) → Ordered s rows js list → Numbers s rows (take n js) list
+  front-numbers n o = record { keyed = front-keyed s rows js (o .keyed) n; below = ordered-numbers o .below }
+
+pub front-long : (js : List ℕ) (n : ℕ) → n ≤ length js → n ≡ length (take n js)
+front-long js n h = sym (length-take-le n js h)
 
 pub run-on : (b c : Bool) → b ≡ true → true ≡ b || c
 run-on b c e = rw e

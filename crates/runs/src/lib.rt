@@ -1,23 +1,17 @@
-// How often what rows hold in some columns occurs, and how many different values a column holds: of rows in order, the runs of equal
-// ones tell.
-use columns::Column;
+// How often what rows hold in some columns occurs: of rows in order, the runs of equal ones tell.
 use columns::Rows;
 ghost use mathlib.Core.Path.{_≡_};
-ghost use mathlib.Core.Bool.{not, _||_};
+ghost use mathlib.Core.Bool.{_||_};
 ghost use Prim.Native.Nat.{_+_, _≤_, _<_};
-ghost use lib.Dec.{eqb};
-ghost use lib.ListN.{length};
+ghost use lib.ListN.{length, take};
 ghost use Rattle.counting.specs.Lists.{same};
-ghost use Rattle.counting.specs.Totals.{bit};
-ghost use Rattle.counting.specs.Distinct.{distinct, allDiffer};
 ghost use Rattle.orm.specs.Form.{inRange, _to_};
-ghost use Rattle.columns.specs.Values.{valuesIn, keysIn, occurring};
-ghost use Rattle.columns.specs.Differ.{Wide, rowsHeld};
-ghost use Rattle.columns.specs.Reach.{Keyed, Reached};
+ghost use Rattle.columns.specs.Values.{keysIn, occurring};
+ghost use Rattle.columns.specs.Reach.{Keyed};
 ghost use Rattle.order.specs.Rows.{keyOf};
 ghost use Rattle.order.specs.Numbers.{Numbers};
-ghost use Rattle.order.specs.Values.{Sortable, Listed};
-ghost use Rattle.runs.specs.Runs.{runsBetween, runAfter, isCompared, valueRuns};
+ghost use Rattle.order.specs.Parts.{Scratch};
+ghost use Rattle.runs.specs.Runs.{runsBetween, Ordered, runAfter, isCompared};
 
 // Rows x and y hold the same in the columns `js`.
 fn same_rows(s: &[u32], rows: Rows, js: &[u32], x: u32, y: u32) -> bool
@@ -79,137 +73,143 @@ fn runs_between(s: &[u32], rows: Rows, js: &[u32], list: &[u32], low: u32, high:
 }
 
 // The rows are put in order, in a list that is as long as there are rows.
-fn occurring_by(s: &[u32], rows: Rows, js: &[u32], low: u32, high: u32, list: &mut [u32]) -> bool
+fn occurring_by(
+    s: &[u32],
+    rows: Rows,
+    js: &[u32],
+    low: u32,
+    high: u32,
+    list: &mut [u32],
+    spare: &mut [u32],
+) -> bool
     requires { ⌜ Keyed (now s) rows (now js) ⌝ }
-    requires { ⌜ length (now list) ≤ 4096 ⌝ }
+    requires { ⌜ Scratch (now list) (now spare) ⌝ }
     requires { ⌜ length (now list) ≡ rows .count ⌝ }
     ensures { λ r. ⌜ r ≡ occurring low high (keysIn (now (s .entry)) rows (now (js .entry))) (keysIn (now (s .entry)) rows (now (js .entry))) ⌝ }
 {
-    order::sort(s, rows, js, list);
+    order::sort(s, rows, js, list, spare);
     runs_between(s, rows, js, list, low, high)
 }
 
-fn occurring_sorted(s: &[u32], rows: Rows, js: &[u32], low: u32, high: u32) -> bool
-    requires { ⌜ Keyed (now s) rows (now js) ⌝ }
-    requires { ⌜ rows .count ≤ 4096 ⌝ }
-    ensures { λ r. ⌜ r ≡ occurring low high (keysIn (now (s .entry)) rows (now (js .entry))) (keysIn (now (s .entry)) rows (now (js .entry))) ⌝ }
-{
-    let mut list = order::scratch();
-    let n = rows.count;
-    occurring_by(s, rows, js, low, high, &mut list[..n])
-}
-
-// So many rows are compared with one another: up to 16 are not worth sorting, and there is no room to sort more than 4,096.
-fn is_compared(count: usize) -> bool
-    ensures { λ r. ⌜ r ≡ isCompared count ⌝ }
+// So many rows are compared with one another: up to 16 are not worth sorting, and more than `room` can't be sorted.
+fn is_compared(count: usize, room: usize) -> bool
+    ensures { λ r. ⌜ r ≡ isCompared room count ⌝ }
 {
     if count <= 16 {
         return true;
     }
-    4096 < count
+    room < count
 }
 
-// What each row holds in the columns `js`, `low` to `high` rows hold. Here and below the test stands before the call, so that
-// few rows need no room for a list.
-pub fn occurring(s: &[u32], rows: Rows, js: &[u32], low: u32, high: u32) -> bool
+// What each row holds in the columns `js`, `low` to `high` rows hold; `list` and `spare` are scratch.
+pub fn occurring(
+    s: &[u32],
+    rows: Rows,
+    js: &[u32],
+    low: u32,
+    high: u32,
+    list: &mut [u32],
+    spare: &mut [u32],
+) -> bool
     requires { ⌜ Keyed (now s) rows (now js) ⌝ }
+    requires { ⌜ Scratch (now list) (now spare) ⌝ }
     ensures { λ r. ⌜ r ≡ occurring low high (keysIn (now (s .entry)) rows (now (js .entry))) (keysIn (now (s .entry)) rows (now (js .entry))) ⌝ }
 {
-    if is_compared(rows.count) {
+    let count = rows.count;
+    if is_compared(count, list.len()) {
         return columns::occurring(s, rows, js, low, high);
     }
-    occurring_sorted(s, rows, js, low, high)
+    occurring_by(s, rows, js, low, high, &mut list[..count], spare)
 }
 
-// The rows differ.
-pub fn rows_differ(s: &[u32], rows: Rows) -> bool
-    requires { ⌜ rows .width ≤ 6 ⌝ }
-    requires { ⌜ rows .start ≤ length (now s) ⌝ }
-    requires { ⌜ Wide (rows .width) (rowsHeld (now s) rows) ⌝ }
-    ensures { λ r. ⌜ r ≡ allDiffer same (rowsHeld (now (s .entry)) rows) ⌝ }
+// ---- two tests of the same rows
+
+// What two tests of the same rows come to: that they differ in all columns, and how often what they hold in the first few occurs.
+pub struct Outcome {
+    pub differ: bool,
+    pub kept: bool,
+}
+
+// By comparing each row with all.
+fn both_compared(s: &[u32], rows: Rows, js: &[u32], n: usize, low: u32, high: u32) -> Outcome
+    requires { ⌜ Keyed (now s) rows (now js) ⌝ }
+    requires { ⌜ n ≤ length (now js) ⌝ }
+    ensures { λ r. ⌜ r .differ ≡ occurring 1 1 (keysIn (now (s .entry)) rows (now (js .entry))) (keysIn (now (s .entry)) rows (now (js .entry))) ⌝ }
+    ensures { λ r. ⌜ r .kept ≡ occurring low high (keysIn (now (s .entry)) rows (take n (now (js .entry)))) (keysIn (now (s .entry)) rows (take n (now (js .entry)))) ⌝ }
 {
-    let js = [0u32, 1, 2, 3, 4, 5];
-    let width = rows.width;
-    if is_compared(rows.count) {
-        return columns::occurring(s, rows, &js[..width], 1, 1);
+    let differ = columns::occurring(s, rows, js, 1, 1);
+    let kept = columns::occurring(s, rows, &js[..n], low, high);
+    Outcome {
+        differ: differ,
+        kept: kept,
     }
-    occurring_sorted(s, rows, &js[..width], 1, 1)
 }
 
-// The values of the column differ.
-pub fn differ(s: &[u32], column: Column) -> bool
-    requires { ⌜ Reached (now s) column ⌝ }
-    ensures { λ r. ⌜ r ≡ allDiffer eqb (valuesIn (now (s .entry)) column) ⌝ }
+// By the runs: rows in the order of all columns are in that of the first few too.
+fn both_runs(
+    s: &[u32],
+    rows: Rows,
+    js: &[u32],
+    n: usize,
+    low: u32,
+    high: u32,
+    list: &[u32],
+) -> Outcome
+    requires { ⌜ Ordered (now s) rows (now js) (now list) ⌝ }
+    requires { ⌜ n ≤ length (now js) ⌝ }
+    ensures { λ r. ⌜ r .differ ≡ occurring 1 1 (keysIn (now (s .entry)) rows (now (js .entry))) (keysIn (now (s .entry)) rows (now (js .entry))) ⌝ }
+    ensures { λ r. ⌜ r .kept ≡ occurring low high (keysIn (now (s .entry)) rows (take n (now (js .entry)))) (keysIn (now (s .entry)) rows (take n (now (js .entry)))) ⌝ }
 {
-    let js = [0u32];
-    let rows = Rows {
-        start: column.start,
-        width: column.step,
-        count: column.count,
-    };
-    if is_compared(rows.count) {
-        return columns::occurring(s, rows, &js, 1, 1);
+    let differ = runs_between(s, rows, js, list, 1, 1);
+    let kept = runs_between(s, rows, &js[..n], list, low, high);
+    Outcome {
+        differ: differ,
+        kept: kept,
     }
-    occurring_sorted(s, rows, &js, 1, 1)
 }
 
-// ---- different values
-
-// 1 where a run of y begins behind x, else 0.
-fn begins(x: u32, y: u32) -> usize
-    ensures { λ r. ⌜ r ≡ bit (not (eqb x y)) ⌝ }
-    ensures { λ r. ⌜ r ≤ 1 ⌝ }
+// The rows are put in order once, in a list that is as long as there are rows.
+fn both_by(
+    s: &[u32],
+    rows: Rows,
+    js: &[u32],
+    n: usize,
+    low: u32,
+    high: u32,
+    list: &mut [u32],
+    spare: &mut [u32],
+) -> Outcome
+    requires { ⌜ Keyed (now s) rows (now js) ⌝ }
+    requires { ⌜ n ≤ length (now js) ⌝ }
+    requires { ⌜ Scratch (now list) (now spare) ⌝ }
+    requires { ⌜ length (now list) ≡ rows .count ⌝ }
+    ensures { λ r. ⌜ r .differ ≡ occurring 1 1 (keysIn (now (s .entry)) rows (now (js .entry))) (keysIn (now (s .entry)) rows (now (js .entry))) ⌝ }
+    ensures { λ r. ⌜ r .kept ≡ occurring low high (keysIn (now (s .entry)) rows (take n (now (js .entry)))) (keysIn (now (s .entry)) rows (take n (now (js .entry)))) ⌝ }
 {
-    if x == y { 0 } else { 1 }
+    order::sort(s, rows, js, list, spare);
+    both_runs(s, rows, js, n, low, high, list)
 }
 
-// How many runs of equal values the list has.
-fn value_runs(s: &[u32], column: Column, list: &[u32]) -> usize
-    requires { ⌜ Sortable (now s) column ⌝ }
-    requires { ⌜ Listed (now s) column (now list) ⌝ }
-    ensures { λ r. ⌜ r ≡ valueRuns (now (s .entry)) column (now (list .entry)) ⌝ }
+// The rows differ in the columns `js`; and what each holds in the first n of these, `low` to `high` rows hold.
+pub fn rows_and_group(
+    s: &[u32],
+    rows: Rows,
+    js: &[u32],
+    n: usize,
+    low: u32,
+    high: u32,
+    list: &mut [u32],
+    spare: &mut [u32],
+) -> Outcome
+    requires { ⌜ Keyed (now s) rows (now js) ⌝ }
+    requires { ⌜ n ≤ length (now js) ⌝ }
+    requires { ⌜ Scratch (now list) (now spare) ⌝ }
+    ensures { λ r. ⌜ r .differ ≡ occurring 1 1 (keysIn (now (s .entry)) rows (now (js .entry))) (keysIn (now (s .entry)) rows (now (js .entry))) ⌝ }
+    ensures { λ r. ⌜ r .kept ≡ occurring low high (keysIn (now (s .entry)) rows (take n (now (js .entry)))) (keysIn (now (s .entry)) rows (take n (now (js .entry)))) ⌝ }
 {
-    if list.len() == 0 {
-        return 0;
+    let count = rows.count;
+    if is_compared(count, list.len()) {
+        return both_compared(s, rows, js, n, low, high);
     }
-    let mut last = order::value(s, column, list[0]);
-    let mut i: usize = 1;
-    let mut n: usize = 1;
-    while i < list.len() {
-        let x = order::value(s, column, list[i]);
-        n += begins(last, x);
-        last = x;
-        i += 1;
-    }
-    n
-}
-
-// The values are put in order, in a list as long as the column.
-fn different_by(s: &[u32], column: Column, list: &mut [u32]) -> usize
-    requires { ⌜ Sortable (now s) column ⌝ }
-    requires { ⌜ length (now list) ≡ column .count ⌝ }
-    ensures { λ r. ⌜ r ≡ length (distinct eqb (valuesIn (now (s .entry)) column)) ⌝ }
-{
-    order::sort_values(s, column, list);
-    value_runs(s, column, list)
-}
-
-fn different_sorted(s: &[u32], column: Column) -> usize
-    requires { ⌜ Sortable (now s) column ⌝ }
-    ensures { λ r. ⌜ r ≡ length (distinct eqb (valuesIn (now (s .entry)) column)) ⌝ }
-{
-    let mut list = order::scratch();
-    let n = column.count;
-    different_by(s, column, &mut list[..n])
-}
-
-// How many different values the column holds.
-pub fn different(s: &[u32], column: Column) -> usize
-    requires { ⌜ Reached (now s) column ⌝ }
-    ensures { λ r. ⌜ r ≡ length (distinct eqb (valuesIn (now (s .entry)) column)) ⌝ }
-{
-    if order::is_sortable(column) {
-        return different_sorted(s, column);
-    }
-    columns::different(s, column)
+    both_by(s, rows, js, n, low, high, &mut list[..count], spare)
 }

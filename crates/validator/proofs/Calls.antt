@@ -17,12 +17,12 @@ use Rattle.table.specs.Valid.{Valid}
 use Rattle.table.specs.Laws.Valid.{valid-walkable}
 use Rattle.blocks.specs.Blocks.{extentOf, populationAt}
 use Rattle.blocks.specs.declared.Extent.{Extent}
-use Rattle.blocks.specs.declared.Extent.the-variants.{Whole, Broken}
-use Rattle.blocks.specs.Standing.{Populated}
-use Rattle.constraints.specs.Tests.{answerOf}
-use Rattle.playing.specs.Playing.{populationOf}
-use Rattle.constraints.specs.declared.Verdict.{Verdict}
-use Rattle.constraints.specs.declared.Verdict.the-variants as verdicts
+use Rattle.blocks.specs.declared.Extent.the-variants.{Broken}
+use Rattle.blocks.specs.Starts.{Populated}
+use Rattle.faults.specs.Faults.{answerOf}
+use Rattle.playing.specs.Places.{populationOf}
+use Rattle.faults.specs.declared.Verdict.{Verdict}
+use Rattle.faults.specs.declared.Verdict.the-variants as verdicts
 use Rattle.validator.specs.declared.ValidateAnswer.{ValidateAnswer}
 use Rattle.validator.specs.declared.ValidateAnswer.the-variants as answers
 use Rattle.validator.specs.Outcomes.{validateOf, validated}
@@ -33,9 +33,6 @@ module _ (t s : List ℕ) where
   pub cells-end : (e : Extent) (at : ℕ) → populationIn (diagramOf t) s ≡ extentOf (populationAt (diagramOf t) s) e → e ≡ Broken at
       → validateOf (answers.CellsEnd at) ≡ validated (diagramOf t) s
   cells-end e at p q = sym (rw (p, q))
-
-  pub populated : (e : Extent) → Valid t → populationIn (diagramOf t) s ≡ extentOf (populationAt (diagramOf t) s) e → e ≡ Whole → Populated t s
-  populated e v p q = record { valid = v; whole = p ∙ ap (extentOf (populationAt (diagramOf t) s)) q }
 
 module _ (t s : List ℕ) (j : Populated t s) where
   answered : accepted (answer (diagramOf t) (populationOf t s)) ≡ validated (diagramOf t) s

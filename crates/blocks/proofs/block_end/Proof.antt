@@ -1,7 +1,5 @@
 -- `blocks::block_end` meets its contract. The size cell and its entries.
 -- Assumes nothing.
-use Rattle.blocks.specs.Places.{end-here}
-use Rattle.blocks.specs.Columns.{block-end}
 use borrow.Author.Needs.{needs}
 use Rattle.blocks.proofs.block_end.Statement.{statement}
 use Rattle.blocks.proofs.block_end.Tie as tie
@@ -10,7 +8,7 @@ pub block-end-spec : {M : Type 1} → statement M
 block-end-spec =
     tie.close
     (tie.spec
-    (λ c κs. search needs)
     (λ c. search needs)
     (λ c κs. search needs)
-    (λ c. search (needs, end-here, block-end)))
+    (λ c. search needs)
+    (λ c. search needs))

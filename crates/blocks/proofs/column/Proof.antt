@@ -1,7 +1,6 @@
 -- `blocks::column` meets its contract. It starts j cells behind the rows.
 -- Assumes nothing.
 use Rattle.blocks.specs.Places.{column-is, column-here}
-use Rattle.blocks.specs.Columns.{role-column}
 use borrow.Author.Needs.{needs}
 use Rattle.blocks.proofs.column.Statement.{statement}
 use Rattle.blocks.proofs.column.Tie as tie
@@ -14,4 +13,4 @@ column-spec =
     (λ c κs. search needs)
     (λ c κs. search needs)
     (λ c κs. search needs)
-    (λ c. search (needs, column-is, column-here, role-column)))
+    (λ c. search (needs, column-is, column-here)))

@@ -1,7 +1,6 @@
 -- `blocks::members` meets its contract. As many as the size cell says, and no more than there are.
 -- Assumes nothing.
 use Rattle.blocks.specs.Places.{members-are, members-count, members-reached}
-use Rattle.blocks.specs.Columns.{members-column}
 use borrow.Author.Needs.{needs}
 use Rattle.blocks.proofs.members.Statement.{statement}
 use Rattle.blocks.proofs.members.Tie as tie
@@ -15,4 +14,4 @@ members-spec =
     (λ c κs. search needs)
     (λ c. search needs)
     (λ c κs. search needs)
-    (λ c. search (needs, members-are, members-count, members-reached, members-column)))
+    (λ c. search (needs, members-are, members-count, members-reached)))

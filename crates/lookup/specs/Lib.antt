@@ -1,0 +1,3 @@
+pub mod Stamps
+pub mod Looked
+pub mod Counts

@@ -1,0 +1,21 @@
+-- `rows::pred_pass` meets its contract. The three tests are told.
+-- Assumes nothing.
+use Rattle.rows.proofs.Groups.{scratch-still}
+use Rattle.rows.proofs.Passing.{pred-told}
+use borrow.Author.Needs.{needs}
+use Rattle.rows.proofs.pred_pass.Statement.{statement}
+use Rattle.rows.proofs.pred_pass.Tie as tie
+
+pub pred-pass-spec : {M : Type 1} → statement M
+pred-pass-spec =
+    tie.close
+    (tie.spec
+    (λ c κs. search needs)
+    (λ c κs. search needs)
+    (λ c κs. search needs)
+    (λ c κs. (search needs, (search needs, (search (needs, scratch-still), (search needs, search needs)))))
+    (λ c κs. search (needs, c .before .before .before .before .before .before .before .before .before .before .before .before .before .before .before .before .before .before .before .before .before .before .pre .1))
+    (λ c. search needs)
+    (λ c. search needs)
+    (λ c. search needs)
+    (λ c. search (needs, pred-told)))

@@ -1,0 +1,17 @@
+-- `types::is_in_range` meets its contract. A type without a range keeps K3.
+-- Assumes nothing.
+use Rattle.types.proofs.Members.{range-none, range-is}
+use borrow.Author.Needs.{needs}
+use Rattle.types.proofs.is_in_range.Statement.{statement}
+use Rattle.types.proofs.is_in_range.Tie as tie
+
+pub is-in-range-spec : {M : Type 1} → statement M
+is-in-range-spec =
+    tie.close
+    (tie.spec
+    (λ c κs. search needs)
+    (λ c. search (needs, range-none))
+    (λ c κs. search needs)
+    (λ c κs. search needs)
+    (λ c κs. search needs)
+    (λ c. search (needs, range-is)))

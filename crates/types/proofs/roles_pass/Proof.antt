@@ -1,0 +1,19 @@
+-- `types::roles_pass` meets its contract. The marks tell K10 once all roles were looked up.
+-- Assumes nothing.
+use Rattle.types.proofs.Members.{roles-told}
+use borrow.Author.Needs.{needs}
+use Rattle.types.proofs.roles_pass.Statement.{statement}
+use Rattle.types.proofs.roles_pass.Tie as tie
+
+pub roles-pass-spec : {M : Type 1} → statement M
+roles-pass-spec =
+    tie.close
+    (tie.spec
+    (λ c κs. search needs)
+    (λ c κs. search needs)
+    (λ c κs. search needs)
+    (λ c κs. search needs)
+    (λ c κs. search needs)
+    (λ c. search needs)
+    (λ c. search needs)
+    (λ c. search (needs, roles-told)))

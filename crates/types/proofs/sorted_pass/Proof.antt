@@ -1,0 +1,17 @@
+-- `types::sorted_pass` meets its contract. The list becomes the members in order.
+-- Assumes nothing.
+use Rattle.types.proofs.Members.{sorted-listed}
+use borrow.Author.Needs.{needs}
+use Rattle.types.proofs.sorted_pass.Statement.{statement}
+use Rattle.types.proofs.sorted_pass.Tie as tie
+
+pub sorted-pass-spec : {M : Type 1} → statement M
+sorted-pass-spec =
+    tie.close
+    (tie.spec
+    (λ c κs. search needs)
+    (λ c κs. (search needs, (search needs, (search needs, (search (needs, sorted-listed), search needs)))))
+    (λ c. search needs)
+    (λ c. search needs)
+    (λ c. search needs)
+    (λ c. search needs))

@@ -1,14 +1,13 @@
 -- One fault noted, and the first entry.
-use Prim.Native.Nat.{ℕ, zero, suc, _+_, _-_, _≤_, _<_}
+use Prim.Native.Nat.{ℕ, suc, _+_, _-_, _≤_, _<_}
 use native.Mathlib.Numerals.{add-one}
 use native.Mathlib.Omega.{arith}
-use mathlib.Core.Path.{_≡_, refl, sym, ap, _∙_}
+use mathlib.Core.Path.{_≡_, sym, ap, _∙_}
 use mathlib.Core.Bool.{Bool, true, false}
 use mathlib.Core.List.{List}
-use lib.Dec.{eqb, ltb}
-use lib.ListN.{length, getD, set}
-use borrow.Author.Tests.{eq-eqb, ne-eqb}
-use Rattle.orm.specs.Constraints.{Answer}
+use lib.Dec.{ltb}
+use lib.ListN.{getD, set}
+use borrow.Author.Tests.{ne-eqb}
 use Rattle.faults.specs.declared.Verdict.the-variants as verdicts
 use Rattle.faults.specs.Faults.{unless, isLower, noted, lowered, firstEntry, answerOf}
 

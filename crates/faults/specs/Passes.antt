@@ -1,12 +1,12 @@
 -- What the pass over types and the pass over predicates find. What is told of a type's members, and of the roles that it plays, is told only where
 -- its K1 and K2 are kept; of a role K8 and K11 only where its K7 is: a lower constraint decides.
-use Prim.Native.Nat.{ℕ, suc}
+use Prim.Native.Nat.{ℕ}
 use mathlib.Core.Bool.{Bool, true, false, not, _&&_, _||_}
-use mathlib.Core.List.{List, [], _∷_, _++_}
+use mathlib.Core.List.{List, [], _++_}
 use lib.Dec.{eqb}
 use lib.ListN.{length}
 use Rattle.counting.specs.Distinct.{all, distinct, within}
-use Rattle.orm.specs.Diagram.{ObjectType, Role, Predicate, Diagram, isMandatory}
+use Rattle.orm.specs.Diagram.{ObjectType, Predicate, Diagram, isMandatory}
 use Rattle.orm.specs.Form.{_to_, inRange}
 use Rattle.orm.specs.Population.{Population}
 use Rattle.orm.specs.Constraints.{Played, played, K1, K2, K3, K5, K6, K9, K10}

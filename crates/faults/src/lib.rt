@@ -2,6 +2,7 @@
 // each constraint the lowest number is kept, and the first constraint with one is the answer. What the passes find stands in
 // specs/Passes, the law that this is document 01's answer in specs/Laws/Answered.
 ghost use mathlib.Core.Path.{_≡_};
+ghost use mathlib.Core.Bool.{_&&_};
 ghost use Prim.Native.Nat.{_+_, _<_};
 ghost use lib.ListN.{length};
 ghost use Rattle.faults.specs.Faults.{unless, isLower, lowered, noEntries, firstEntry, answerOf};
@@ -10,6 +11,16 @@ ghost use Rattle.faults.specs.Faults.{unless, isLower, lowered, noEntrie
 pub enum Verdict {
     Valid,
     Breaks { constraint: u32, number: u32 },
+}
+
+// Both tests hold.
+pub fn both(a: bool, b: bool) -> bool
+    ensures { λ r. ⌜ r ≡ a && b ⌝ }
+{
+    if a {
+        return b;
+    }
+    false
 }
 
 fn is_lower(number: u32, entry: u32) -> bool

@@ -3,7 +3,7 @@ use Prim.Native.Nat.{ℕ, zero, suc, _+_, _*_, _-_, _≤_, _<_}
 use native.Mathlib.Omega.{arith}
 use mathlib.Core.Path.{_≡_, refl, sym, ap, _∙_}
 use mathlib.Core.Bool.{Bool, true, false, _&&_, and-true, and-assoc}
-use mathlib.Core.List.{List, [], _∷_, _++_}
+use mathlib.Core.List.{List, [], _∷_}
 use lib.Dec.{eqb}
 use lib.ListN.{length, getD, drop, set}
 use lib.Seq.{set-getD}
@@ -13,8 +13,7 @@ use Rattle.counting.specs.Terms.{_∈_}
 use Rattle.counting.specs.Distinct.{member, within, occurrences}
 use Rattle.counting.specs.Laws.Distinct.{occurrences-cons, member-decides}
 use Rattle.counting.specs.Laws.Instances.{eqb-decides}
-use Rattle.sorting.specs.Search.{placeOf, place-none, place-in, place-holds, place-lt}
-use Rattle.sorting.specs.Rising.{Rising}
+use Rattle.sorting.specs.Search.{placeOf, place-in, place-holds, place-lt}
 use Rattle.columns.specs.declared.Column.{Column}
 use Rattle.columns.specs.Values.{spaced, valuesIn}
 use Rattle.columns.specs.Walks.{value-here, spaced-more, spaced-none, next-here}

@@ -1,14 +1,14 @@
 -- Members with a mark each: those that are met get a stamp.
-use Prim.Native.Nat.{ℕ, zero, suc, _<_, _≤_}
+use Prim.Native.Nat.{ℕ, zero, suc, _<_}
 use native.Mathlib.Omega.{arith}
-use mathlib.Core.Path.{_≡_, refl, sym, ap, ap₂, _∙_}
+use mathlib.Core.Path.{_≡_, refl, sym, ap, ap₂}
 use mathlib.Core.Bool.{Bool, true, false, not, _&&_, _||_}
 use mathlib.Core.List.{List, [], _∷_, _++_}
 use lib.Dec.{eqb}
 use lib.ListN.{length, getD, set, replicate}
 use borrow.Author.Tests.{eq-eqb, ne-eqb}
 use Rattle.counting.specs.Distinct.{all, member, within}
-use Rattle.counting.specs.Terms.{_∈_, Each}
+use Rattle.counting.specs.Terms.{Each}
 use Rattle.counting.specs.Laws.Members.{each-head, each-tail, getD-in}
 use Rattle.counting.specs.Laws.Distinct.{member-append}
 use Rattle.sorting.specs.Rising.{Rising, rising-behind, rising-least}

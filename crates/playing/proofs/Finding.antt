@@ -1,21 +1,20 @@
 -- The predicates one after another: what was found and what the predicates left tell come to all.
-use Prim.Native.Nat.{ℕ, zero, suc, _+_, _-_, _≤_, _<_}
+use Prim.Native.Nat.{ℕ, _+_, _-_, _≤_, _<_}
 use native.Mathlib.Numerals.{add-one}
-use native.Mathlib.Omega.{arith}
-use mathlib.Core.Path.{_≡_, refl, sym, ap, ap₂, _∙_}
-use mathlib.Core.Bool.{Bool, true, false, _&&_}
+use mathlib.Core.Path.{_≡_, refl, sym, ap, _∙_}
+use mathlib.Core.Bool.{Bool, true, false}
 use mathlib.Core.List.{List, [], _∷_, _++_, append-nil, append-assoc, flatten, zipWith}
 use lib.Dec.{eqb}
 use lib.ListN.{length, getD, drop}
 use Rattle.counting.specs.Distinct.{all}
 use Rattle.orm.specs.Diagram.{Predicate}
 use Rattle.orm.specs.Constraints.{Played, played, valuesInRoles, allPlayed}
-use Rattle.faults.specs.Faults.{Fault, unless, lowered, faultsOf}
-use Rattle.faults.specs.Passes.{belongsHere, fillsHere, limitedHere, roleFaults}
+use Rattle.faults.specs.Faults.{unless, lowered, faultsOf}
+use Rattle.faults.specs.Passes.{roleFaults}
 use Rattle.faults.specs.Laws.Lowest.{length-lowered, lowered-then}
 use Rattle.table.specs.Positions.{predOf, predLength, predsIn, typeCount, predCount, firstPredAt, diagramOf}
 use Rattle.table.specs.Laws.Walks.{preds-more, preds-none}
-use Rattle.lookup.specs.Stamps.{isSet, allMet, met-end}
+use Rattle.lookup.specs.Stamps.{allMet, met-end}
 use Rattle.lookup.specs.Counts.{Fresh}
 use Rattle.blocks.specs.Blocks.{blockLength, contents, predWidth, rowsAt, rowsIn, populationAt}
 use Rattle.blocks.specs.Starts.{Located, starts-preds}

@@ -1,5 +1,5 @@
 -- One role joined, and all roles of a predicate one after another.
-use Prim.Native.Nat.{ℕ, zero, suc, _+_, _-_, _≤_, _<_}
+use Prim.Native.Nat.{ℕ, _+_, _-_, _≤_, _<_}
 use native.Mathlib.Numerals.{add-one}
 use native.Mathlib.Omega.{arith}
 use mathlib.Core.Path.{_≡_, refl, sym, ap, ap₂, _∙_}
@@ -9,15 +9,13 @@ use lib.Dec.{eqb}
 use lib.ListN.{length, getD, drop}
 use borrow.Author.Tests.{eq-eqb, ne-eqb, not-true, not-false}
 use Rattle.counting.specs.Lists.{mapFrom, column}
-use Rattle.counting.specs.Distinct.{all, within, distinct, occurrences}
-use Rattle.orm.specs.Diagram.{Role, Predicate, isMandatory}
+use Rattle.counting.specs.Distinct.{all, within, occurrences}
+use Rattle.orm.specs.Diagram.{Role, isMandatory}
 use Rattle.orm.specs.Form.{_to_, inRange}
 use Rattle.orm.specs.Constraints.{Played, played, valuesInRoles}
 use Rattle.faults.specs.Passes.{belongs, fills, limited, belongsHere, fillsHere, limitedHere}
 use Rattle.table.specs.Positions.{wideRole, predOf, roleWidth, rolesStart, rolesIn}
 use Rattle.table.specs.Laws.Walks.{role-more, role-none, roles-here}
-use Rattle.columns.specs.declared.Column.{Column}
-use Rattle.columns.specs.Values.{valuesIn}
 use Rattle.lookup.specs.declared.Met.{Met}
 use Rattle.lookup.specs.Stamps.{allMet, stamped, met-then}
 use Rattle.lookup.specs.Counts.{Fresh, count-fills, count-differs, fresh-then}
@@ -26,12 +24,6 @@ use Rattle.playing.specs.declared.Kept.{Kept}
 use Rattle.playing.specs.Joined.{playedAs, fillsBy, joinedBy, keptAll, JoinsOne, Joins, RolesJoin}
 
 -- ---- tests
-
-pub both-true : (a b : Bool) → a ≡ true → b ≡ (a && b)
-both-true a b e = rw e
-
-pub both-false : (a b : Bool) → a ≡ false → false ≡ (a && b)
-both-false a b e = rw e
 
 module _ (t : List ℕ) (role count size : ℕ) {v : ℕ} (e : v ≡ getD (drop role t) 1 0) where
   pub fills-free : (v ≡ 1 → ⊥) → true ≡ fillsBy (wideRole (drop role t)) count size

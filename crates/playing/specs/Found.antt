@@ -1,7 +1,7 @@
 -- What the roles of all predicates tell of a type.
 use Prim.Native.Nat.{ℕ}
 use mathlib.Core.Path.{_≡_}
-use mathlib.Core.List.{List, []}
+use mathlib.Core.List.{List}
 use Rattle.counting.specs.Distinct.{all}
 use Rattle.orm.specs.Constraints.{valuesInRoles, allPlayed}
 use Rattle.faults.specs.Faults.{lowered, faultsOf}

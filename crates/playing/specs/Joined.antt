@@ -1,10 +1,9 @@
 -- The roles of a predicate one after another: what is kept so far, and which members were met.
-use Prim.Native.Nat.{ℕ, suc, _+_, _≤_}
+use Prim.Native.Nat.{ℕ, _+_}
 use mathlib.Core.Path.{_≡_}
-use mathlib.Core.Bool.{Bool, true, false, not, _&&_, _||_}
+use mathlib.Core.Bool.{Bool, true, not, _&&_, _||_}
 use mathlib.Core.List.{List, _++_}
 use lib.Dec.{eqb}
-use lib.ListN.{length}
 use Rattle.counting.specs.Distinct.{all}
 use Rattle.orm.specs.Diagram.{Role, isMandatory}
 use Rattle.orm.specs.Form.{_to_, inRange}

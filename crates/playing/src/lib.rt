@@ -2,7 +2,6 @@
 use columns::Column;
 use lookup::Met;
 ghost use mathlib.Core.Path.{_≡_};
-ghost use mathlib.Core.Bool.{_&&_};
 ghost use mathlib.Core.List.{[], _∷_};
 ghost use Prim.Native.Nat.{_+_, _≤_, _<_};
 ghost use lib.ListN.{length, drop};
@@ -23,15 +22,6 @@ pub struct Kept {
     pub within: bool,
     pub filled: bool,
     pub limited: bool,
-}
-
-fn both(a: bool, b: bool) -> bool
-    ensures { λ r. ⌜ r ≡ a && b ⌝ }
-{
-    if a {
-        return b;
-    }
-    false
 }
 
 // K8 of the role at `role`, of a type with `size` members, of which `count` stand in it.
@@ -68,8 +58,8 @@ fn joined(t: &[u32], role: usize, size: usize, met: Met, kept: Kept) -> Kept
     Kept {
         stamp: kept.stamp + 1,
         within: kept.within,
-        filled: both(kept.filled, filled),
-        limited: both(kept.limited, limited),
+        filled: faults::both(kept.filled, filled),
+        limited: faults::both(kept.limited, limited),
     }
 }
 

@@ -1,13 +1,11 @@
 -- One type: its constraints by its members in order.
-use Prim.Native.Nat.{ℕ, zero, suc, _+_, _-_, _≤_, _<_, min}
-use native.Mathlib.Nat.{mul-one}
+use Prim.Native.Nat.{ℕ, _+_, _≤_, _<_, min}
 use native.Mathlib.Omega.{arith}
 use mathlib.Core.Path.{_≡_, refl, sym, ap, ap₂, _∙_}
 use mathlib.Core.Bool.{Bool, true, false, not, _&&_, _||_}
 use mathlib.Core.List.{List, [], _∷_, _++_}
 use lib.Dec.{eqb, ltb}
 use lib.ListN.{length, getD, take, drop, replicate, length-take, length-drop}
-use lib.Seq.{length-take-le}
 use borrow.Author.Tests.{eq-eqb, ne-eqb, not-true, not-false}
 use Rattle.counting.specs.Distinct.{all, member, within, allDiffer}
 use Rattle.orm.specs.Diagram.{ObjectType, Diagram, isMandatory, mustPlay}
@@ -20,25 +18,20 @@ use Rattle.faults.specs.Faults.{Fault, unless, lowered, faultsOf}
 use Rattle.faults.specs.Passes.{belongs, fills, limited, belongsHere, fillsHere, limitedHere, roleFaults, below, subtypeFaults, memberFaults, typeFaults}
 use Rattle.faults.specs.Laws.Lowest.{lowered-then}
 use Rattle.sorting.specs.Order.{sorted}
-use Rattle.sorting.specs.Sorted.{sorted-same, member-sorted, length-sorted}
+use Rattle.sorting.specs.Sorted.{sorted-same, member-sorted}
+use Rattle.sorting.specs.Runs.{and-turn}
 use Rattle.sorting.specs.Rising.{rising, Rising, rising-sorted}
 use Rattle.table.specs.Positions.{diagramOf}
 use Rattle.columns.specs.declared.Column.{Column}
 use Rattle.columns.specs.Values.{valuesIn, length-spaced}
 use Rattle.columns.specs.Reach.{Reached}
-use Rattle.order.specs.Parts.{Scratch, part-is, part-scratch}
+use Rattle.order.specs.Parts.{part-is}
 use Rattle.lookup.specs.Stamps.{isSet, allMet, met-start}
 use Rattle.lookup.specs.Counts.{Fresh, fresh-start}
 use Rattle.blocks.specs.Blocks.{membersAt}
 use Rattle.playing.specs.Places.{populationOf}
 use Rattle.playing.specs.Found.{Found}
 use Rattle.types.specs.Members.{Room, Sized, Listed, Paired, InOrder, Noted, Told, rolesTold}
-
-pub both-true : (a b : Bool) → a ≡ true → b ≡ (a && b)
-both-true a b e = rw e
-
-pub both-false : (a b : Bool) → a ≡ false → false ≡ (a && b)
-both-false a b e = rw e
 
 -- ---- K2, K3 and K4
 
@@ -84,11 +77,6 @@ played-by d o n t vs = go (mustPlay d n t)
     go false = refl
 
 -- ---- the order of members does not matter
-
-and-turn : (a b c : Bool) → a && (b && c) ≡ b && (a && c)
-and-turn true b c = refl
-and-turn false true c = refl
-and-turn false false c = refl
 
 module _ (ms : List ℕ) where
   within-order : (vs : List ℕ) → within eqb vs (sorted ltb ms) ≡ within eqb vs ms

@@ -4,7 +4,7 @@ use columns::Column;
 use selection::players::must_play;
 use selection::players::plays;
 ghost use mathlib.Core.Path.{_≡_};
-ghost use mathlib.Core.Bool.{not, _&&_, _||_};
+ghost use mathlib.Core.Bool.{not, _||_};
 ghost use Prim.Native.Nat.{_≤_, _<_};
 ghost use lib.ListN.{length, drop};
 ghost use Rattle.counting.specs.Distinct.{all};
@@ -27,15 +27,6 @@ struct Place {
     line: usize,
     at: usize,
     number: u32,
-}
-
-fn both(a: bool, b: bool) -> bool
-    ensures { λ r. ⌜ r ≡ a && b ⌝ }
-{
-    if a {
-        return b;
-    }
-    false
 }
 
 // K2: its size is MIN to MAX.
@@ -190,7 +181,7 @@ fn note_size(t: &[u32], place: Place, size: usize, differ: bool, lowest: &mut [u
     let sized = is_sized(t, place.line, size);
     faults::note(differ, 1, place.number, lowest);
     faults::note(sized, 2, place.number, lowest);
-    both(differ, sized)
+    faults::both(differ, sized)
 }
 
 // All of the type, by its members in order.

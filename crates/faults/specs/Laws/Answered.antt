@@ -2,23 +2,22 @@
 use Prim.Native.Nat.{ℕ, zero, suc, _+_, _-_, _≤_, _<_}
 use native.Mathlib.Omega.{arith}
 use mathlib.Core.Path.{_≡_, refl, sym, ap, _∙_}
-use mathlib.Core.Logic.{⊎-elim}
 use mathlib.Core.Bool.{Bool, true, false}
 use mathlib.Core.Option.{Option, none, some}
 use mathlib.Core.List.{List, [], _∷_, List·Memᴰ·not-nil}
 use lib.Dec.{eqb, leb}
 use lib.ListN.{length, getD, drop, replicate, drop-of-length-le}
 use borrow.Author.Tests.{ne-eqb, eqb-true, eqb-false, leb-true, leb-false}
-use Rattle.counting.specs.Terms.{_∈_, Each}
+use Rattle.counting.specs.Terms.{Each}
 use Rattle.orm.specs.Diagram.{Diagram}
 use Rattle.orm.specs.Population.{Population}
 use Rattle.orm.specs.WellFormed.{WellFormed}
 use Rattle.orm.specs.Meaning.{Shaped}
 use Rattle.orm.specs.Constraints.{Answer, breaks, constraints, firstFalse, firstBroken, answer}
-use Rattle.faults.specs.Faults.{Fault, lowered, noEntries, firstEntry}
+use Rattle.faults.specs.Faults.{lowered, noEntries, firstEntry}
 use Rattle.faults.specs.Passes.{faults}
 use Rattle.faults.specs.Laws.Lowest.{numberIn, falses, falses-from, Fits, entry-is, none-false, first-above}
-use Rattle.faults.specs.Laws.Sound.{kept, Broken, found-broken}
+use Rattle.faults.specs.Laws.Sound.{kept, found-broken}
 use Rattle.faults.specs.Laws.Complete.{LowerKept, broken-found}
 
 past : (bss : List (List Bool)) (k : ℕ) → length bss ≤ k → getD bss k [] ≡ []

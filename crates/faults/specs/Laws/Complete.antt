@@ -1,13 +1,12 @@
 -- Whatever breaks a constraint is found, where the lower constraints are kept.
 use Prim.Native.Nat.{ℕ, zero, suc, _+_, _≤_, _<_}
 use native.Mathlib.Omega.{arith}
-use mathlib.Core.Path.{_≡_, refl, sym, ap, _∙_}
-use mathlib.Core.Bool.{Bool, true, false, not, _&&_, _||_}
+use mathlib.Core.Path.{_≡_, refl, ap}
+use mathlib.Core.Bool.{Bool, true, false}
 use mathlib.Core.List.{List, [], _∷_, _++_, List·Memᴰ·head as here, List·Memᴰ·tail as there, List·Memᴰ·not-nil, List·Memᴰ·cases-cons}
 use mathlib.Core.List.{Memᴰ·append-left, Memᴰ·append-right}
 use mathlib.Core.Logic.{⊎-elim}
 use lib.Dec.{eqb}
-use lib.ListN.{length, getD}
 use borrow.Author.Tests.{eq-eqb, eqb-false}
 use Rattle.counting.specs.Terms.{_∈_}
 use Rattle.counting.specs.Lists.{mapFrom, column}
@@ -20,8 +19,8 @@ use Rattle.orm.specs.Meaning.{Shaped}
 use Rattle.orm.specs.Constraints.{Played, played, membersOf, K1, K2, K3, K4, K5, K6, K7, K8, K9, K10, K11, constraints}
 use Rattle.faults.specs.Faults.{Fault, unless, faultsOf}
 use Rattle.faults.specs.Passes.{belongs, fills, limited, belongsHere, fillsHere, limitedHere, roleFaults, below, subtypeFaults, memberFaults, typeFaults, predFaults, faults}
-use Rattle.faults.specs.Laws.Lowest.{falses, Told}
-use Rattle.faults.specs.Laws.Pairs.{At, at-first, at-each, at-to, at-index, at-some, of-faults, in-faults, of-types, in-types, of-preds, in-preds, in-unless}
+use Rattle.faults.specs.Laws.Lowest.{Told}
+use Rattle.faults.specs.Laws.Pairs.{At, at-first, at-each, at-to, at-index, at-some, in-faults, of-types, in-types, of-preds, in-preds, in-unless}
 use Rattle.faults.specs.Laws.Sound.{kept, Broken, all-not}
 
 -- the role of what is played

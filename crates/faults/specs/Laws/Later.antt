@@ -1,19 +1,18 @@
 -- Faults of later constraints don't change which of K1 to K4 comes first.
-use Prim.Native.Nat.{ℕ, zero, suc, _≤_, _<_}
+use Prim.Native.Nat.{ℕ, zero, suc, _≤_}
 use native.Mathlib.Omega.{arith}
 use mathlib.Core.Path.{_≡_, refl, sym, subst⁻¹, _∙_}
 use mathlib.Core.Logic.{⊎-elim}
 use mathlib.Core.Bool.{Bool, true, false}
 use mathlib.Core.List.{List, [], _∷_, _++_, List·Memᴰ·append-cases}
 use lib.Dec.{eqb}
-use lib.ListN.{length, getD, set}
+use lib.ListN.{getD, set}
 use lib.Seq.{getD-set-other}
-use borrow.Author.Tests.{eqb-true}
-use Rattle.counting.specs.Terms.{_∈_, Each}
+use Rattle.counting.specs.Terms.{Each}
 use Rattle.counting.specs.Laws.Members.{each-head, each-tail}
 use Rattle.orm.specs.Diagram.{Predicate, Diagram}
 use Rattle.orm.specs.Population.{Population}
-use Rattle.orm.specs.Constraints.{Answer, valid, breaks, K5, K6, K9}
+use Rattle.orm.specs.Constraints.{Answer, breaks, K5, K6, K9}
 use Rattle.faults.specs.Faults.{Fault, unless, isLower, noted, lowered, faultsOf, firstEntry}
 use Rattle.faults.specs.Passes.{predFaults}
 use Rattle.faults.specs.Laws.Pairs.{of-faults, of-unless}

@@ -1,22 +1,22 @@
 -- Every fault that the passes find is one: the constraint is broken by that number.
 use Prim.Native.Nat.{ℕ, _-_}
 use native.Mathlib.Omega.{arith}
-use mathlib.Core.Path.{_≡_, refl, sym, ap, _∙_}
+use mathlib.Core.Path.{_≡_, refl, ap, _∙_}
 use mathlib.Core.Logic.{⊎-elim}
 use mathlib.Core.Bool.{Bool, true, false, not, _&&_, _||_}
-use mathlib.Core.List.{List, [], _∷_, _++_, List·Memᴰ·head as here, List·Memᴰ·tail as there, List·Memᴰ·not-nil, List·Memᴰ·append-cases}
+use mathlib.Core.List.{List, [], _++_, List·Memᴰ·head as here, List·Memᴰ·tail as there, List·Memᴰ·not-nil, List·Memᴰ·append-cases}
 use lib.Dec.{eqb}
-use lib.ListN.{length, getD}
-use borrow.Author.Tests.{eqb-true, not-false, ne-eqb}
+use lib.ListN.{getD}
+use borrow.Author.Tests.{eqb-true, ne-eqb}
 use Rattle.counting.specs.Terms.{_∈_}
 use Rattle.counting.specs.Distinct.{all, within}
 use Rattle.counting.specs.Laws.Distinct.{all-fails}
-use Rattle.orm.specs.Diagram.{ObjectType, Role, Predicate, Diagram, isRoot, isMandatory}
+use Rattle.orm.specs.Diagram.{ObjectType, Predicate, Diagram, isRoot}
 use Rattle.orm.specs.Population.{Population}
 use Rattle.orm.specs.Constraints.{Played, played, membersOf, K1, K2, K3, K4, K5, K6, K7, K8, K9, K10, K11, constraints}
 use Rattle.faults.specs.Faults.{Fault, unless, faultsOf}
 use Rattle.faults.specs.Passes.{belongs, fills, limited, belongsHere, fillsHere, limitedHere, roleFaults, below, subtypeFaults, memberFaults, typeFaults, predFaults, faults}
-use Rattle.faults.specs.Laws.Lowest.{falses, or-false}
+use Rattle.faults.specs.Laws.Lowest.{falses}
 use Rattle.faults.specs.Laws.Pairs.{At, at-from, at-index, of-faults, in-types, in-preds, of-unless}
 
 -- The tests of constraint k, of each type or predicate

@@ -1,5 +1,5 @@
 -- Both passes, and the scratch for them.
-use Prim.Native.Nat.{ℕ, _≤_}
+use Prim.Native.Nat.{ℕ, _≤_, min}
 use native.Mathlib.Omega.{arith}
 use mathlib.Core.Path.{_≡_, refl, ap, _∙_, sym}
 use mathlib.Core.Bool.{Bool, true, false}
@@ -51,16 +51,8 @@ final-breaks r c m e = rw e
 pub room-scratch : (s list spare : List ℕ) → Room s list spare → Scratch list spare
 room-scratch s list spare r = r .scratch
 
-module _ (s list spare : List ℕ) where
-  pub few-room : length s ≤ 64 → list ≡ replicate 64 0 → spare ≡ replicate 64 0 → Room s list spare
-  few-room h p q = record {
-    scratch = record { few = omega (arith, ap length p); long = omega (arith, ap length p, ap length q) };
-    even = omega (arith, ap length p, ap length q);
-    enough = omega (arith, ap length p);
-  }
-
-  pub many-room : list ≡ replicate 4096 0 → spare ≡ replicate 4096 0 → Room s list spare
-  many-room p q =
-      let a : length list ≡ 4096 = ap length p ∙ length-replicate {A = ℕ} 4096 0 in
-      let b : length spare ≡ 4096 = ap length q ∙ length-replicate {A = ℕ} 4096 0 in
-      record { scratch = record { few = omega arith; long = omega arith }; even = omega arith; enough = omega arith }
+-- scratch of n numbers
+pub room-of : (s : List ℕ) (n : ℕ) → n ≤ 4096 → min 4096 (length s) ≤ n → Room s (replicate n 0) (replicate n 0)
+room-of s n h k =
+    let l : length (replicate {A = ℕ} n 0) ≡ n = length-replicate n 0 in
+    record { scratch = record { few = omega arith; long = omega arith }; even = refl; enough = omega arith }

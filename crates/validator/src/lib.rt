@@ -5,8 +5,7 @@ use faults::Verdict;
 use grammar::Fault;
 use widening::Acceptance;
 ghost use mathlib.Core.Path.{_≡_};
-ghost use Prim.Native.Nat.{_≤_};
-ghost use lib.ListN.{length, replicate};
+ghost use lib.ListN.{length};
 ghost use Rattle.orm.specs.Constraints.{answer};
 ghost use Rattle.orm.specs.Calls.{validateCall};
 ghost use Rattle.faults.specs.Faults.{answerOf};
@@ -67,41 +66,6 @@ fn first_by(
     faults::first(&lowest)
 }
 
-fn little() -> [u32; 64]
-    ensures { λ r. ⌜ r ≡ replicate 64 0 ⌝ }
-{
-    [0u32; 64]
-}
-
-fn enough() -> [u32; 4096]
-    ensures { λ r. ⌜ r ≡ replicate 4096 0 ⌝ }
-{
-    [0u32; 4096]
-}
-
-fn first_of_few(t: &[u32], cells: &[u32], starts: &[usize]) -> Verdict
-    requires { ⌜ Walkable (now t) ⌝ }
-    requires { ⌜ Populated (now t) (now cells) ⌝ }
-    requires { ⌜ Located (now t) (now cells) (now starts) ⌝ }
-    requires { ⌜ length (now cells) ≤ 64 ⌝ }
-    ensures { λ r. ⌜ answerOf r ≡ answer (diagramOf (now (t .entry))) (populationOf (now (t .entry)) (now (cells .entry))) ⌝ }
-{
-    let mut list = little();
-    let mut spare = little();
-    first_by(t, cells, starts, &mut list, &mut spare)
-}
-
-fn first_of_many(t: &[u32], cells: &[u32], starts: &[usize]) -> Verdict
-    requires { ⌜ Walkable (now t) ⌝ }
-    requires { ⌜ Populated (now t) (now cells) ⌝ }
-    requires { ⌜ Located (now t) (now cells) (now starts) ⌝ }
-    ensures { λ r. ⌜ answerOf r ≡ answer (diagramOf (now (t .entry))) (populationOf (now (t .entry)) (now (cells .entry))) ⌝ }
-{
-    let mut list = enough();
-    let mut spare = enough();
-    first_by(t, cells, starts, &mut list, &mut spare)
-}
-
 // Scratch is cleared where it is made, so that few cells get little of it.
 fn first_broken(t: &[u32], cells: &[u32], starts: &[usize]) -> Verdict
     requires { ⌜ Walkable (now t) ⌝ }
@@ -110,21 +74,13 @@ fn first_broken(t: &[u32], cells: &[u32], starts: &[usize]) -> Verdict
     ensures { λ r. ⌜ answerOf r ≡ answer (diagramOf (now (t .entry))) (populationOf (now (t .entry)) (now (cells .entry))) ⌝ }
 {
     if cells.len() <= 64 {
-        return first_of_few(t, cells, starts);
+        let mut list = [0u32; 64];
+        let mut spare = [0u32; 64];
+        return first_by(t, cells, starts, &mut list, &mut spare);
     }
-    first_of_many(t, cells, starts)
-}
-
-fn validate_whole(t: &[u32], cells: &[u32], starts: &[usize]) -> ValidateAnswer
-    requires { ⌜ Walkable (now t) ⌝ }
-    requires { ⌜ Populated (now t) (now cells) ⌝ }
-    requires { ⌜ Located (now t) (now cells) (now starts) ⌝ }
-    ensures { λ r. ⌜ validateOf r ≡ validated (diagramOf (now (t .entry))) (now (cells .entry)) ⌝ }
-{
-    match first_broken(t, cells, starts) {
-        Verdict::Valid => ValidateAnswer::Valid,
-        Verdict::Breaks { constraint, number } => ValidateAnswer::Breaks { constraint, number },
-    }
+    let mut list = [0u32; 4096];
+    let mut spare = [0u32; 4096];
+    first_by(t, cells, starts, &mut list, &mut spare)
 }
 
 // ---- the call
@@ -137,8 +93,11 @@ fn validate_cells(t: &[u32], cells: &[u32], starts: &mut [usize]) -> ValidateAns
     ensures { λ r. ⌜ validateOf r ≡ validated (diagramOf (now (t .entry))) (now (cells .entry)) ⌝ }
 {
     match blocks::cut(t, cells, starts) {
-        Extent::Whole => validate_whole(t, cells, starts),
         Extent::Broken { at } => ValidateAnswer::CellsEnd { at },
+        Extent::Whole => match first_broken(t, cells, starts) {
+            Verdict::Valid => ValidateAnswer::Valid,
+            Verdict::Breaks { constraint, number } => ValidateAnswer::Breaks { constraint, number },
+        },
     }
 }
 

@@ -18,6 +18,11 @@ unfoldable pub unless : Bool → ℕ → ℕ → List Fault
 unless true k n = []
 unless false k n = record { constraint = k; number = n } ∷ []
 
+-- Faults that are told only where a test holds
+unfoldable pub given : Bool → List Fault → List Fault
+given true fs = fs
+given false fs = []
+
 -- The faults of each element of two lists, with its number
 module _ {X A : Type 0} (of : ℕ → X → A → List Fault) where
   unfoldable pub faultsOf : ℕ → List X → List A → List Fault

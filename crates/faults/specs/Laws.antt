@@ -1,6 +1,4 @@
 pub mod Lowest
-pub mod Pairs
-pub mod Sound
-pub mod Complete
+pub mod Found
 pub mod Answered
 pub mod Later

@@ -56,14 +56,15 @@ pub fn first(lowest: &[u32]) -> Verdict
     requires { ⌜ length (now lowest) ≡ 12 ⌝ }
     ensures { λ r. ⌜ answerOf r ≡ firstEntry 1 11 (now (lowest .entry)) ⌝ }
 {
-    let mut constraint: u32 = 1;
     let mut k: usize = 1;
     while k < 12 {
         let number = lowest[k];
         if number != 0 {
-            return Verdict::Breaks { constraint, number };
+            return Verdict::Breaks {
+                constraint: k as u32,
+                number,
+            };
         }
-        constraint += 1;
         k += 1;
     }
     Verdict::Valid

@@ -20,6 +20,7 @@ use Rattle.columns.specs.Walks.{value-here, spaced-more, spaced-none, next-here
 use Rattle.columns.specs.Reach.{Reached}
 use Rattle.lookup.specs.declared.Met.{Met}
 use Rattle.lookup.specs.Looked.{Looked}
+use Rattle.lookup.specs.Counts.{Fresh, Meets, meets}
 use Rattle.lookup.specs.Stamps.{stamped, Marked, stamped-then, stamped-none, stamped-absent, stamped-at, length-stamped}
 
 -- ---- one value
@@ -100,9 +101,8 @@ pub record Meeting (s : List ℕ) (c : Column) (ws ms₀ : List ℕ) (k : ℕ) (
   pub marked : Marked ws ms
 
 module _ (s : List ℕ) (c : Column) (ws : List ℕ) (k : ℕ) where
-  pub meeting-start : (ms : List ℕ) (met : Met) → Marked ws ms → met .all ≡ true → met .count ≡ 0 → Meeting s c ws ms k ms (c .start) (c .count) met
-  meeting-start ms met m a n =
-      record { all = rw a; marks = refl; count = omega arith; few = omega arith; marked = m }
+  pub meeting-start : (ms : List ℕ) (met : Met) → Fresh ws ms k → met .all ≡ true → met .count ≡ 0 → Meeting s c ws ms k ms (c .start) (c .count) met
+  meeting-start ms met f a n = record { all = rw a; marks = refl; count = omega arith; few = omega arith; marked = f .marked }
 
   module _ (ms₀ ms : List ℕ) (at left : ℕ) (met : Met) (i : Meeting s c ws ms₀ k ms at left met) where
     pub meeting-few : at < length s → length s * 4 < 9223372036854775808 → met .count < 4611686018427387904
@@ -123,15 +123,9 @@ module _ (s : List ℕ) (c : Column) (ws : List ℕ) (k : ℕ) where
           marked = record { rising = i .marked .rising; long = j ∙ i .marked .long };
         }
 
-    none-left : left ≤ 0 → spaced left (c .step) (drop at s) ≡ []
-    none-left h = spaced-none (c .step) left (drop at s) h
-
-    pub met-all : left ≤ 0 → met .all ≡ within eqb (valuesIn s c) ws
+    pub meeting-end : Fresh ws ms₀ k → left ≤ 0 → Meets ws (valuesIn s c) ms₀ k ms met
     unfolding within
-    met-all h = sym (and-true (met .all)) ∙ (rw (none-left h, within) at (i .all))
-
-    pub met-marks : left ≤ 0 → ms ≡ stamped k ws (valuesIn s c) ms₀
-    met-marks h = sym (stamped-none k ws ms) ∙ ap (λ (l : List ℕ). stamped k ws l ms) (sym (none-left h)) ∙ i .marks
-
-    pub met-count : met .count + occurrences eqb k ms₀ ≡ occurrences eqb k ms
-    met-count = i .count
+    meeting-end f h =
+        let none : spaced left (c .step) (drop at s) ≡ [] = spaced-none (c .step) left (drop at s) h in
+        meets ws ms₀ ms (valuesIn s c) k (met .count) f (sym (stamped-none k ws ms) ∙ (rw none at (i .marks))) (i .count) met
+        (sym (and-true (met .all)) ∙ (rw (none, within) at (i .all))) refl

@@ -4,7 +4,7 @@ use native.Mathlib.Omega.{arith}
 use mathlib.Core.Path.{_≡_, refl, ap, _∙_}
 use mathlib.Core.Bool.{Bool, true, false, _&&_}
 use mathlib.Core.Logic.{⊎-elim}
-use mathlib.Core.List.{List, [], _∷_, List·Memᴰ·head as here, List·Memᴰ·tail as there, List·Memᴰ·not-nil, List·Memᴰ·cases-cons}
+use mathlib.Core.List.{List, [], _∷_, _++_, List·Memᴰ·head as here, List·Memᴰ·tail as there, List·Memᴰ·not-nil, List·Memᴰ·cases-cons}
 use lib.Dec.{eqb}
 use lib.ListN.{length, replicate, length-replicate}
 use borrow.Author.Tests.{eq-eqb, ne-eqb, eqb-true}
@@ -16,13 +16,22 @@ use Rattle.counting.specs.Laws.Distinct.{bool-ext, occurrences-cons, member-dec
 use Rattle.counting.specs.Laws.Instances.{eqb-decides}
 use Rattle.counting.specs.Laws.Sizes.{no-repeats-eq-distinct}
 use Rattle.sorting.specs.Rising.{Rising, rising-no-repeats}
-use Rattle.lookup.specs.Stamps.{stamped, Marked, length-stamped}
+use Rattle.lookup.specs.declared.Met.{Met}
+use Rattle.lookup.specs.Stamps.{stamped, allMet, Marked, length-stamped, met-then}
 
 -- The members rise, there is a mark for each, and no stamp from k on was used; 0 is no stamp
 pub record Fresh (ws ms : List ℕ) (k : ℕ) : Type 0 where
   pub marked : Marked ws ms
   pub some : 0 < k
   pub below : Each (λ (m : ℕ). m < k) ms
+
+-- The values `vs` are looked up among the members `ws` with stamp k: the marks then, whether all are members, and how many members they are
+pub record Meets (ws vs ms : List ℕ) (k : ℕ) (ms′ : List ℕ) (met : Met) : Type 0 where
+  pub all : met .all ≡ within eqb vs ws
+  pub fills : eqb (met .count) (length ws) ≡ within eqb ws vs
+  pub differs : within eqb vs ws ≡ true → met .count ≡ length (distinct eqb vs)
+  pub marks : (us : List ℕ) → allMet ws ms′ us ≡ allMet ws ms (vs ++ us)
+  pub fresh : Fresh ws ms′ (k + 1)
 
 -- Those of the members that are among the values
 amongst : List ℕ → List ℕ → List ℕ
@@ -135,23 +144,32 @@ module _ (ws ms ms′ vs : List ℕ) (k n : ℕ) (f : Fresh ws ms k) (e : ms′ 
   count-is = omega (arith, none-yet k ms (f .below), ap (occurrences eqb k) e, stamps k ws vs ms (f .below) (f .marked .long))
 
   -- Every member is met
-  pub count-fills : eqb n (length ws) ≡ within eqb ws vs
+  count-fills : eqb n (length ws) ≡ within eqb ws vs
   count-fills = rw count-is (all-amongst ws vs)
 
   -- As many different values there are, if all are members
-  pub count-differs : within eqb vs ws ≡ true → n ≡ length (distinct eqb vs)
+  count-differs : within eqb vs ws ≡ true → n ≡ length (distinct eqb vs)
   count-differs w =
       count-is
       ∙ no-repeats-eq-distinct eqb-decides (amongst ws vs) vs (no-repeats-amongst ws vs (rising-no-repeats ws (f .marked .rising)))
       (λ a m. of-amongst ws vs m .1) (λ a m. in-amongst ws vs (within-decides eqb-decides vs ws .0 w a m) m)
 
-  -- A higher stamp was not used
-  pub fresh-then : (j : ℕ) → k < j → Fresh ws ms′ j
-  fresh-then j h = record {
-    some = omega arith;
-    marked = record { rising = f .marked .rising; long = ap length e ∙ length-stamped k ws vs ms ∙ f .marked .long };
-    below = rw e (stamps-below k j h ws vs ms (λ m i. omega (arith, f .below m i)));
+  pub meets : (met : Met) → met .all ≡ within eqb vs ws → met .count ≡ n → Meets ws vs ms k ms′ met
+  meets met a q = record {
+    all = a;
+    fills = rw q count-fills;
+    differs = rw q count-differs;
+    marks = λ us. rw e (met-then k ws ms vs us (f .some));
+    fresh = record {
+      some = omega arith;
+      marked = record { rising = f .marked .rising; long = ap length e ∙ length-stamped k ws vs ms ∙ f .marked .long };
+      below = rw e (stamps-below k (k + 1) (omega arith) ws vs ms (λ m i. omega (arith, f .below m i)));
+    };
   }
+
+-- A higher stamp was not used either
+pub fresh-later : {ws ms : List ℕ} {k : ℕ} (j : ℕ) → Fresh ws ms k → k ≤ j → Fresh ws ms j
+fresh-later j f h = record { marked = f .marked; some = omega (arith, f .some); below = λ m i. omega (arith, f .below m i) }
 
 -- No stamp was used yet
 pub fresh-start : (ws ms : List ℕ) → Rising ws → ms ≡ replicate (length ws) 0 → Fresh ws ms 1

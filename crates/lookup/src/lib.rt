@@ -4,15 +4,16 @@
 // and how many in the last one.
 use columns::Column;
 ghost use mathlib.Core.Path.{_≡_};
-ghost use Prim.Native.Nat.{_+_, _<_};
+ghost use Prim.Native.Nat.{_<_};
 ghost use lib.Dec.{eqb};
 ghost use lib.ListN.{length, replicate};
-ghost use Rattle.counting.specs.Distinct.{all, within, occurrences};
+ghost use Rattle.counting.specs.Distinct.{all, within};
 ghost use Rattle.sorting.specs.Rising.{Rising};
 ghost use Rattle.columns.specs.Values.{valuesIn};
 ghost use Rattle.columns.specs.Reach.{Reached};
-ghost use Rattle.lookup.specs.Stamps.{isSet, stamped, Marked};
+ghost use Rattle.lookup.specs.Stamps.{isSet, Marked};
 ghost use Rattle.lookup.specs.Looked.{Looked};
+ghost use Rattle.lookup.specs.Counts.{Fresh, Meets};
 
 // Whether all values were members, and how many members they met that had another stamp.
 pub struct Met {
@@ -64,10 +65,8 @@ fn meet_value(list: &[u32], x: u32, marks: &mut [u32], stamp: u32, met: Met) -> 
 // The values of the column are looked up, and the members among them met.
 pub fn meet(cells: &[u32], values: Column, list: &[u32], marks: &mut [u32], stamp: u32) -> Met
     requires { ⌜ Reached (now cells) values ⌝ }
-    requires { ⌜ Marked (now list) (now marks) ⌝ }
-    ensures { λ r. ⌜ r .all ≡ within eqb (valuesIn (now (cells .entry)) values) (now (list .entry)) ⌝ }
-    ensures { λ r. ⌜ now (marks .exit) ≡ stamped stamp (now (list .entry)) (valuesIn (now (cells .entry)) values) (now (marks .entry)) ⌝ }
-    ensures { λ r. ⌜ r .count + occurrences eqb stamp (now (marks .entry)) ≡ occurrences eqb stamp (now (marks .exit)) ⌝ }
+    requires { ⌜ Fresh (now list) (now marks) stamp ⌝ }
+    ensures { λ r. ⌜ Meets (now (list .entry)) (valuesIn (now (cells .entry)) values) (now (marks .entry)) stamp (now (marks .exit)) r ⌝ }
 {
     let mut at = values.start;
     let mut left = values.count;

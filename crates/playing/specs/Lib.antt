@@ -1,3 +1,3 @@
 pub mod Places
-pub mod Joined
+pub mod Left
 pub mod Found

@@ -5,22 +5,22 @@ use selection::players::must_play;
 use selection::players::plays;
 ghost use mathlib.Core.Path.{_≡_};
 ghost use mathlib.Core.Bool.{not, _||_};
-ghost use Prim.Native.Nat.{_≤_, _<_};
-ghost use lib.ListN.{length, drop};
+ghost use Prim.Native.Nat.{_+_, _*_, _≤_, _<_};
+ghost use lib.ListN.{length, getD, drop};
 ghost use Rattle.counting.specs.Distinct.{all};
-ghost use Rattle.orm.specs.Form.{typeOf, _to_, inRange};
+ghost use Rattle.orm.specs.Diagram.{mustPlay};
+ghost use Rattle.orm.specs.Form.{typeOf};
 ghost use Rattle.orm.specs.Constraints.{K3};
 ghost use Rattle.faults.specs.Faults.{lowered, faultsOf};
-ghost use Rattle.faults.specs.Passes.{below, subtypeFaults, memberFaults, typeFaults};
+ghost use Rattle.faults.specs.Passes.{subtypeFaults, memberFaults, typeFaults};
 ghost use Rattle.sorting.specs.Rising.{Rising};
 ghost use Rattle.table.specs.Positions.{diagramOf, Walkable};
 ghost use Rattle.columns.specs.Values.{valuesIn};
-ghost use Rattle.columns.specs.Reach.{Reached};
 ghost use Rattle.lookup.specs.Stamps.{isSet};
 ghost use Rattle.blocks.specs.Blocks.{membersAt};
 ghost use Rattle.blocks.specs.Starts.{Populated, Located};
 ghost use Rattle.playing.specs.Places.{populationOf};
-ghost use Rattle.types.specs.Members.{Room, Sized, Listed, Paired, InOrder, Noted, Told, rolesTold};
+ghost use Rattle.types.specs.Members.{Room, Sized, Paired, Noted, rolesTold};
 
 // The type at `line` of the table, with its block at `at` of the cells and this number.
 struct Place {
@@ -29,41 +29,51 @@ struct Place {
     number: u32,
 }
 
-// K2: its size is MIN to MAX.
-fn is_sized(t: &[u32], line: usize, size: usize) -> bool
-    requires { ⌜ Walkable (now t) ⌝ }
-    ensures { λ r. ⌜ r ≡ inRange (typeOf (drop line (now (t .entry))) .min to typeOf (drop line (now (t .entry))) .max) size ⌝ }
+// That of the type with index i.
+fn place_at(starts: &[usize], i: u32) -> Place
+    requires { ⌜ i < 32 ⌝ }
+    ensures { λ r. ⌜ r .line ≡ 2 + 6 * i ⌝ }
+    ensures { λ r. ⌜ r .at ≡ getD (now (starts .entry)) i 0 ⌝ }
+    ensures { λ r. ⌜ r .number ≡ i + 1 ⌝ }
 {
-    columns::in_range(table::field(t, line, 0), table::field(t, line, 1), size)
+    let k = columns::index(i);
+    Place {
+        line: 2 + 6 * k,
+        at: blocks::block(starts, k),
+        number: i + 1,
+    }
 }
 
-// K3: the values of a type that gives FIRST and LAST are FIRST to LAST.
-fn is_in_range(t: &[u32], cells: &[u32], line: usize, members: Column) -> bool
+// K3: the values of a type that gives FIRST and LAST are FIRST to LAST; of members in order the first and the last tell.
+fn is_in_range(t: &[u32], line: usize, list: &[u32]) -> bool
     requires { ⌜ Walkable (now t) ⌝ }
-    requires { ⌜ Reached (now cells) members ⌝ }
-    ensures { λ r. ⌜ r ≡ K3 (typeOf (drop line (now (t .entry)))) (valuesIn (now (cells .entry)) members) ⌝ }
+    requires { ⌜ Rising (now list) ⌝ }
+    ensures { λ r. ⌜ r ≡ K3 (typeOf (drop line (now (t .entry)))) (now (list .entry)) ⌝ }
 {
     if !supertypes::has_range(t, line) {
         return true;
     }
-    columns::all_in_range(
-        cells,
-        members,
-        table::field(t, line, 2),
-        table::field(t, line, 3),
+    if list.len() == 0 {
+        return true;
+    }
+    faults::both(
+        table::field(t, line, 2) <= list[0],
+        list[list.len() - 1] <= table::field(t, line, 3),
     )
 }
 
-// K4 of the type at `line`, with its block at `at`: below the type with this number its members are among those in `list`.
-fn is_below(t: &[u32], cells: &[u32], number: u32, line: usize, at: usize, list: &[u32]) -> bool
+// K4 of the type at a place, if it is below that with this number, whose members are in `list`.
+fn note_below(t: &[u32], cells: &[u32], number: u32, below: Place, list: &[u32], lowest: &mut [u32])
     requires { ⌜ Walkable (now t) ⌝ }
     requires { ⌜ Rising (now list) ⌝ }
-    ensures { λ r. ⌜ r ≡ below number (now (list .entry)) (typeOf (drop line (now (t .entry)))) (membersAt (drop at (now (cells .entry)))) ⌝ }
+    requires { ⌜ length (now lowest) ≡ 12 ⌝ }
+    ensures { λ _. ⌜ now (lowest .exit) ≡ lowered (subtypeFaults number (now (list .entry)) (below .number) (typeOf (drop (below .line) (now (t .entry)))) (membersAt (drop (below .at) (now (cells .entry))))) (now (lowest .entry)) ⌝ }
 {
-    if table::field(t, line, 4) != number {
-        return true;
+    if table::field(t, below.line, 4) != number {
+        return;
     }
-    lookup::within(cells, blocks::members(cells, at), list)
+    let kept = lookup::within(cells, blocks::members(cells, below.at), list);
+    faults::note(kept, 4, below.number, lowest);
 }
 
 // K4 of all types below that with this number.
@@ -81,49 +91,23 @@ fn subtypes_pass(
     requires { ⌜ length (now lowest) ≡ 12 ⌝ }
     ensures { λ _. ⌜ now (lowest .exit) ≡ lowered (faultsOf (subtypeFaults number (now (list .entry))) 1 (diagramOf (now (t .entry)) .types) (populationOf (now (t .entry)) (now (cells .entry)) .types)) (now (lowest .entry)) ⌝ }
 {
-    let mut line: usize = 2;
-    let mut i: usize = 0;
-    let mut own: u32 = 1;
-    let mut left = table::type_count(t);
-    while 0 < left {
-        let kept = is_below(t, cells, number, line, blocks::block(starts, i), list);
-        faults::note(kept, 4, own, lowest);
-        line += 6;
+    let mut i = 0;
+    while i < table::type_count(t) {
+        note_below(t, cells, number, place_at(starts, i), list, lowest);
         i += 1;
-        own += 1;
-        left -= 1;
     }
 }
 
-// K10 of a type that must play or need not, by the marks of its members.
-fn all_play(must: bool, marks: &[u32]) -> bool
-    ensures { λ r. ⌜ r ≡ not must || all isSet (now (marks .entry)) ⌝ }
+// K10 of the type at a place, by the marks of its members: those of a type that must play are in a role.
+fn all_play(t: &[u32], place: Place, marks: &[u32]) -> bool
+    requires { ⌜ Walkable (now t) ⌝ }
+    ensures { λ r. ⌜ r ≡ not (mustPlay (diagramOf (now (t .entry))) (place .number) (typeOf (drop (place .line) (now (t .entry))))) || all isSet (now (marks .entry)) ⌝ }
 {
+    let must = must_play(t, place.line, place.number, plays(t, place.number));
     if !must {
         return true;
     }
     lookup::all_met(marks)
-}
-
-// K7, K8 and K11 of the roles that the type with this number plays; afterwards the members in one are marked.
-fn meet_roles(
-    t: &[u32],
-    cells: &[u32],
-    starts: &[usize],
-    number: u32,
-    list: &[u32],
-    marks: &mut [u32],
-    lowest: &mut [u32],
-)
-    requires { ⌜ Walkable (now t) ⌝ }
-    requires { ⌜ Populated (now t) (now cells) ⌝ }
-    requires { ⌜ Located (now t) (now cells) (now starts) ⌝ }
-    requires { ⌜ Paired (now list) (now marks) ⌝ }
-    requires { ⌜ length (now lowest) ≡ 12 ⌝ }
-    ensures { λ _. ⌜ Told (diagramOf (now (t .entry))) (populationOf (now (t .entry)) (now (cells .entry))) number (now (list .entry)) (now (lowest .entry)) (now (marks .exit)) (now (lowest .exit)) ⌝ }
-{
-    lookup::clear(marks);
-    playing::preds_pass(t, cells, starts, number, list, marks, lowest);
 }
 
 // K7, K8 and K11 of its roles, and K10, by its members in order.
@@ -143,9 +127,9 @@ fn roles_pass(
     requires { ⌜ length (now lowest) ≡ 12 ⌝ }
     ensures { λ _. ⌜ now (lowest .exit) ≡ rolesTold (diagramOf (now (t .entry))) (populationOf (now (t .entry)) (now (cells .entry))) (place .number) (typeOf (drop (place .line) (now (t .entry)))) (now (list .entry)) (now (lowest .entry)) ⌝ }
 {
-    let must = must_play(t, place.line, place.number, plays(t, place.number));
-    meet_roles(t, cells, starts, place.number, list, marks, lowest);
-    faults::note(all_play(must, marks), 10, place.number, lowest);
+    lookup::clear(marks);
+    playing::preds_pass(t, cells, starts, place.number, list, marks, lowest);
+    faults::note(all_play(t, place, marks), 10, place.number, lowest);
 }
 
 // The rest of a type whose K1 and K2 are kept, by its members in order: K3, K4 of the types below it, K7, K8 and K11 of its roles and K10.
@@ -154,7 +138,6 @@ fn members_pass(
     cells: &[u32],
     starts: &[usize],
     place: Place,
-    members: Column,
     list: &[u32],
     marks: &mut [u32],
     lowest: &mut [u32],
@@ -162,12 +145,11 @@ fn members_pass(
     requires { ⌜ Walkable (now t) ⌝ }
     requires { ⌜ Populated (now t) (now cells) ⌝ }
     requires { ⌜ Located (now t) (now cells) (now starts) ⌝ }
-    requires { ⌜ InOrder (now cells) members (now list) (now marks) ⌝ }
+    requires { ⌜ Paired (now list) (now marks) ⌝ }
     requires { ⌜ length (now lowest) ≡ 12 ⌝ }
-    ensures { λ _. ⌜ now (lowest .exit) ≡ lowered (memberFaults (diagramOf (now (t .entry))) (populationOf (now (t .entry)) (now (cells .entry))) (place .number) (typeOf (drop (place .line) (now (t .entry)))) (valuesIn (now (cells .entry)) members)) (now (lowest .entry)) ⌝ }
+    ensures { λ _. ⌜ now (lowest .exit) ≡ lowered (memberFaults (diagramOf (now (t .entry))) (populationOf (now (t .entry)) (now (cells .entry))) (place .number) (typeOf (drop (place .line) (now (t .entry)))) (now (list .entry))) (now (lowest .entry)) ⌝ }
 {
-    let ranged = is_in_range(t, cells, place.line, members);
-    faults::note(ranged, 3, place.number, lowest);
+    faults::note(is_in_range(t, place.line, list), 3, place.number, lowest);
     subtypes_pass(t, cells, starts, place.number, list, lowest);
     roles_pass(t, cells, starts, place, list, marks, lowest);
 }
@@ -178,35 +160,11 @@ fn note_size(t: &[u32], place: Place, size: usize, differ: bool, lowest: &mut [u
     requires { ⌜ length (now lowest) ≡ 12 ⌝ }
     ensures { λ r. ⌜ Noted (typeOf (drop (place .line) (now (t .entry)))) (place .number) size differ (now (lowest .entry)) (now (lowest .exit)) r ⌝ }
 {
-    let sized = is_sized(t, place.line, size);
+    let low = table::field(t, place.line, 0);
+    let sized = columns::in_range(low, table::field(t, place.line, 1), size);
     faults::note(differ, 1, place.number, lowest);
     faults::note(sized, 2, place.number, lowest);
     faults::both(differ, sized)
-}
-
-// All of the type, by its members in order.
-fn listed_pass(
-    t: &[u32],
-    cells: &[u32],
-    starts: &[usize],
-    place: Place,
-    members: Column,
-    list: &[u32],
-    marks: &mut [u32],
-    lowest: &mut [u32],
-)
-    requires { ⌜ Walkable (now t) ⌝ }
-    requires { ⌜ Populated (now t) (now cells) ⌝ }
-    requires { ⌜ Located (now t) (now cells) (now starts) ⌝ }
-    requires { ⌜ Listed (now cells) members (now list) (now marks) ⌝ }
-    requires { ⌜ length (now lowest) ≡ 12 ⌝ }
-    ensures { λ _. ⌜ now (lowest .exit) ≡ lowered (typeFaults (diagramOf (now (t .entry))) (populationOf (now (t .entry)) (now (cells .entry))) (place .number) (typeOf (drop (place .line) (now (t .entry)))) (valuesIn (now (cells .entry)) members)) (now (lowest .entry)) ⌝ }
-{
-    let differ = order::rises(list);
-    if !note_size(t, place, members.count, differ, lowest) {
-        return;
-    }
-    members_pass(t, cells, starts, place, members, list, marks, lowest);
 }
 
 // All of the type, by scratch as long as it has members.
@@ -227,8 +185,10 @@ fn sorted_pass(
     requires { ⌜ length (now lowest) ≡ 12 ⌝ }
     ensures { λ _. ⌜ now (lowest .exit) ≡ lowered (typeFaults (diagramOf (now (t .entry))) (populationOf (now (t .entry)) (now (cells .entry))) (place .number) (typeOf (drop (place .line) (now (t .entry)))) (valuesIn (now (cells .entry)) members)) (now (lowest .entry)) ⌝ }
 {
-    order::sort_values(cells, members, list, spare);
-    listed_pass(t, cells, starts, place, members, list, spare, lowest);
+    let differ = order::sort_values(cells, members, list, spare);
+    if note_size(t, place, members.count, differ, lowest) {
+        members_pass(t, cells, starts, place, list, spare, lowest);
+    }
 }
 
 // All of the type.
@@ -283,20 +243,9 @@ pub fn pass(
     requires { ⌜ length (now lowest) ≡ 12 ⌝ }
     ensures { λ _. ⌜ now (lowest .exit) ≡ lowered (faultsOf (typeFaults (diagramOf (now (t .entry))) (populationOf (now (t .entry)) (now (cells .entry)))) 1 (diagramOf (now (t .entry)) .types) (populationOf (now (t .entry)) (now (cells .entry)) .types)) (now (lowest .entry)) ⌝ }
 {
-    let mut line: usize = 2;
-    let mut i: usize = 0;
-    let mut number: u32 = 1;
-    let mut left = table::type_count(t);
-    while 0 < left {
-        let place = Place {
-            line,
-            at: blocks::block(starts, i),
-            number,
-        };
-        type_pass(t, cells, starts, place, list, spare, lowest);
-        line += 6;
+    let mut i = 0;
+    while i < table::type_count(t) {
+        type_pass(t, cells, starts, place_at(starts, i), list, spare, lowest);
         i += 1;
-        number += 1;
-        left -= 1;
     }
 }

@@ -3,7 +3,7 @@
 use Prim.Native.Nat.{_+_, _*_}
 use mathlib.Core.Path.{_≡_}
 use Rattle.columns.specs.Reach.{endOfColumn, left-reached, left-after}
-use Rattle.lookup.proofs.Meeting.{Meeting, meeting-start, meeting-few, meeting-more, met-all, met-marks, met-count}
+use Rattle.lookup.proofs.Meeting.{Meeting, meeting-start, meeting-few, meeting-more, meeting-end}
 use borrow.Author.Needs.{needs}
 use Rattle.lookup.proofs.meet.Statement.{statement}
 use Rattle.lookup.proofs.meet.Tie as tie
@@ -28,4 +28,4 @@ meet-spec =
     (λ c. search needs)
     (λ c. search (needs, meeting-more, left-after))
     (λ c. search needs)
-    (λ c. search (needs, met-all, met-marks, met-count)))
+    (λ c. search (needs, meeting-end)))

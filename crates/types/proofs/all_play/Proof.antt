@@ -1,4 +1,4 @@
--- `types::all_play` meets its contract. A type that need not play is let off.
+-- `types::all_play` meets its contract. A type that need not play keeps K10.
 -- Assumes nothing.
 use Rattle.types.proofs.Members.{plays-free, plays-all}
 use borrow.Author.Needs.{needs}
@@ -9,6 +9,8 @@ pub all-play-spec : {M : Type 1} → statement M
 all-play-spec =
     tie.close
     (tie.spec
+    (λ c κs. search needs)
+    (λ c κs. search needs)
     (λ c. search (needs, plays-free))
     (λ c κs. search needs)
     (λ c. search (needs, plays-all)))

@@ -1,18 +1,20 @@
 -- `types::subtypes_pass` meets its contract. What was noted and the types left come to all.
 -- Assumes nothing.
-use Prim.Native.Nat.{_+_, _*_, _≤_}
+use Prim.Native.Nat.{_-_}
 use mathlib.Core.Path.{_≡_}
 use lib.ListN.{length}
-use Rattle.types.proofs.Walked.{SubtypesLeft, subtypes-start, subtypes-more, subtypes-none}
+use Rattle.faults.specs.Passes.{subtypeFaults}
+use Rattle.table.specs.Positions.{typeCount}
+use Rattle.types.proofs.Walked.{Left, left-start, left-more, left-none}
 use borrow.Author.Needs.{needs}
 use Rattle.types.proofs.subtypes_pass.Statement.{statement}
 use Rattle.types.proofs.subtypes_pass.Tie as tie
 
 abbrev Inv-loop : tie.InvT-loop
-Inv-loop t cells starts number list lowest₀ line₀ i₀ own₀ left₀ lowest line i own left = (length lowest ≡ 12) × (line + 6 * left ≤ 200) × (own + i + 2 * left ≤ 65) × SubtypesLeft t cells starts number list lowest₀ lowest line i own left
+Inv-loop t cells starts number list lowest₀ i₀ lowest i = (length lowest ≡ 12) × Left (subtypeFaults number list) t cells lowest₀ lowest i
 
 abbrev μ-loop : tie.MeasureT-loop
-μ-loop t cells starts number list lowest₀ line₀ i₀ own₀ left₀ lowest line i own left = left
+μ-loop t cells starts number list lowest₀ i₀ lowest i = typeCount t - i
 
 pub subtypes-pass-spec : {M : Type 1} → statement M
 subtypes-pass-spec =
@@ -20,16 +22,12 @@ subtypes-pass-spec =
     (tie.spec
     Inv-loop
     μ-loop
-    (λ c κs. search needs)
-    (λ c. search (needs, subtypes-start))
-    (λ c κs. search needs)
+    (λ c. (search needs, search (needs, left-start)))
     (λ c κs. search needs)
     (λ c κs. search needs)
+    (λ c κs. search needs)
     (λ c. search needs)
     (λ c. search needs)
+    (λ c. (search needs, search (needs, left-more)))
     (λ c. search needs)
-    (λ c. search needs)
-    (λ c. search needs)
-    (λ c. search (needs, subtypes-more))
-    (λ c. search needs)
-    (λ c. search (needs, subtypes-none)))
+    (λ c. search (needs, left-none)))

@@ -1,7 +1,7 @@
 -- `types::type_pass` meets its contract. More members than there is room for break K2.
 -- Assumes nothing.
 use Rattle.order.specs.Parts.{part-long}
-use Rattle.types.proofs.Members.{spare-room, part-sized, compared-told, sorted-told}
+use Rattle.types.proofs.Members.{spare-room, part-sized, many-told, sorted-told}
 use borrow.Author.Needs.{needs}
 use Rattle.types.proofs.type_pass.Statement.{statement}
 use Rattle.types.proofs.type_pass.Tie as tie
@@ -14,7 +14,7 @@ type-pass-spec =
     (λ c κs. search needs)
     (λ c κs. search needs)
     (λ c. search needs)
-    (λ c. search (needs, compared-told))
+    (λ c. search (needs, many-told))
     (λ c. search needs)
     (λ c. search (needs, part-long))
     (λ c. search (needs, spare-room))

@@ -2,15 +2,11 @@
 -- give the population that cutting gives.
 -- Code that walks cells stands at a position `at`; what it reads there is a definition of the list `drop at s`.
 use Prim.Native.Nat.{ℕ, suc, _+_, _*_}
-use mathlib.Core.Bool.{Bool, true, false}
 use mathlib.Core.List.{List, [], _∷_, _++_, map}
-use lib.Dec.{leb}
-use lib.ListN.{length, getD, take, drop, replicate}
+use lib.ListN.{length, getD, take, drop}
 use Rattle.orm.specs.Diagram.{ObjectType, Predicate, Diagram}
 use Rattle.orm.specs.Population.{Population, rowsOf}
 use Rattle.orm.specs.Outcome.{Outcome, refused, accepted}
-use Rattle.blocks.specs.declared.End.{End}
-use Rattle.blocks.specs.declared.End.the-variants.{At, Short}
 use Rattle.blocks.specs.declared.Extent.{Extent}
 use Rattle.blocks.specs.declared.Extent.the-variants.{Whole, Broken}
 
@@ -18,10 +14,9 @@ use Rattle.blocks.specs.declared.Extent.the-variants.{Whole, Broken}
 abbrev pub blockLength : ℕ → List ℕ → ℕ
 blockLength width s = suc (getD s 0 0 * width)
 
--- The block is there whole
-unfoldable pub blockFits : ℕ → List ℕ → Bool
-blockFits width [] = false
-blockFits width (k ∷ s) = leb (k * width) (length s)
+-- More than a block takes, of fewer than 2^32 entries with fewer than 10^6 cells each
+abbrev pub mostCells : ℕ
+mostCells = 4294967296000000
 
 -- The values of a type, and the rows of a predicate with so many roles, whose block starts here
 abbrev pub membersAt : List ℕ → List ℕ
@@ -30,10 +25,10 @@ membersAt s = take (getD s 0 0) (drop 1 s)
 abbrev pub rowsAt : ℕ → List ℕ → List (List ℕ)
 rowsAt width s = rowsOf (getD s 0 0) width (drop 1 s)
 
--- What stands behind blocks of these widths
-unfoldable pub behind : List ℕ → List ℕ → List ℕ
-behind [] s = s
-behind (w ∷ ws) s = behind ws (drop (blockLength w s) s)
+-- Where blocks of these widths end that stand from `at` on; a size cell that is missing reads as 0
+unfoldable pub endOf : List ℕ → List ℕ → ℕ → ℕ
+endOf s [] at = at
+endOf s (w ∷ ws) at = endOf s ws (at + blockLength w (drop at s))
 
 -- A block for each element, one behind the other: `width` of an element's block, and what it holds
 module _ {X A : Type 0} (width : X → ℕ) (content : X → List ℕ → A) where
@@ -55,28 +50,19 @@ rowsIn ps s = contents predWidth (λ (p : Predicate). rowsAt (predWidth p)) ps s
 
 -- The first predicate's block and the others
 unfoldable pub behindTypes : Diagram → List ℕ → List ℕ
-behindTypes d s = behind (replicate (length (d .types)) 1) s
+behindTypes d s = drop (endOf s (map typeWidth (d .types)) 0) s
 
 unfoldable pub populationAt : Diagram → List ℕ → Population
 populationAt d s = record { types = membersIn (d .types) s; preds = rowsIn (d .preds) (behindTypes d s) }
 
--- Where blocks of these widths end that start at `at`, where each is there whole
-unfoldable pub endOf : List ℕ → List ℕ → ℕ → End
-endOf s [] at = At at
-endOf s (w ∷ ws) at = elim (blockFits w (drop at s)) [ true ↦ endOf s ws (at + blockLength w (drop at s)) | false ↦ Short ]
-
 -- The width of each block: the types' and then the predicates'
 unfoldable pub blockWidths : Diagram → List ℕ
-blockWidths d = replicate (length (d .types)) 1 ++ map predWidth (d .preds)
+blockWidths d = map typeWidth (d .types) ++ map predWidth (d .preds)
 
--- Where blocks of these widths start that stand from `at` on, up to and with the first that is not there whole; and the end where all are
+-- Where blocks of these widths start that stand from `at` on, and the end
 unfoldable pub startsOf : List ℕ → List ℕ → ℕ → List ℕ
 startsOf s [] at = at ∷ []
-startsOf s (w ∷ ws) at = at ∷ elim (blockFits w (drop at s)) [ true ↦ startsOf s ws (at + blockLength w (drop at s)) | false ↦ [] ]
-
--- A list whose front is overwritten
-unfoldable pub writtenOver : List ℕ → List ℕ → List ℕ
-writtenOver front l = front ++ drop (length front) l
+startsOf s (w ∷ ws) at = at ∷ startsOf s ws (at + blockLength w (drop at s))
 
 -- Document 01's number and place of cells that can't be cut
 abbrev pub extentOf : Population → Extent → Outcome Population

@@ -1,24 +1,21 @@
 -- Predicates of a valid table whose blocks are there whole, by positions.
 use Prim.Native.Nat.{ℕ, _+_, _*_, _-_, _≤_, _<_}
-use native.Mathlib.Nat.{add-zero}
 use native.Mathlib.Omega.{arith}
-use mathlib.Core.Path.{_≡_, refl, sym, ap, _∙_}
-use mathlib.Core.List.{List, _∷_, map}
+use mathlib.Core.Path.{_≡_, refl, _∙_}
+use mathlib.Core.List.{List}
 use lib.ListN.{length, getD, drop, length-drop}
-use lib.Seq.{drop-drop, getD-drop}
 use Rattle.counting.specs.Terms.{Each, Each2}
 use Rattle.counting.specs.Laws.Members.{each-head, each-tail}
 use Rattle.orm.specs.Diagram.{Predicate}
 use Rattle.orm.specs.Meaning.{Rows}
 use Rattle.orm.specs.Laws.Cells.{population-in-iff}
 use Rattle.table.specs.Positions.{predOf, predLength, predsIn, typeCount, predCount, firstPredAt, diagramOf}
-use Rattle.table.specs.Cursors.{Ahead}
-use Rattle.table.specs.Laws.Walks.{preds-more, ahead-start, ahead-here, ahead-more}
+use Rattle.table.specs.Laws.Walks.{preds-more, ahead-here}
 use Rattle.table.specs.Laws.Valid.{valid-walkable}
 use Rattle.columns.specs.declared.Column.{Column}
 use Rattle.columns.specs.Reach.{Reached, wide-room}
-use Rattle.blocks.specs.Blocks.{blockLength, contents, predWidth, rowsAt, rowsIn, populationAt, blockWidths}
-use Rattle.blocks.specs.Starts.{Populated, Located, widths-behind, block-next, starts-preds}
+use Rattle.blocks.specs.Blocks.{blockLength, contents, predWidth, rowsAt, rowsIn, populationAt}
+use Rattle.blocks.specs.Starts.{Populated, Located, Pending, pending-start, pending-wide, pending-more, block-next, starts-preds}
 use Rattle.blocks.specs.Places.{ColumnHere}
 
 -- The predicate at `pred` of the table is there and has few roles, and its rows at `at` of the cells have a cell for each
@@ -27,12 +24,11 @@ pub record PredHere (t s : List ℕ) (pred at : ℕ) : Type 0 where
   pub few : predWidth (predOf (drop pred t)) ≤ 6
   pub wide : Each (λ (row : List ℕ). length row ≡ predWidth (predOf (drop pred t))) (rowsAt (predWidth (predOf (drop pred t))) (drop at s))
 
--- So are the `n` predicates from `pred` of the table on, with their rows in the blocks from that with the number `k` on
+-- So are the `n` predicates from `pred` of the table on, with their rows in the blocks from that with number `k` on
 pub record Standing (t s starts : List ℕ) (pred k n : ℕ) : Type 0 where
   pub located : Located t s starts
-  pub ahead : Ahead t pred n
+  pub pending : Pending t pred k n
   pub few : Each (λ (p : Predicate). predWidth p ≤ 6) (predsIn n (drop pred t))
-  pub widths : drop k (blockWidths (diagramOf t)) ≡ map predWidth (predsIn n (drop pred t))
   pub wide : Each2 Rows (predsIn n (drop pred t)) (rowsIn (predsIn n (drop pred t)) (drop (getD starts k 0) s))
 
 -- ---- the columns of such a predicate are there
@@ -43,55 +39,37 @@ column-reached t s pred at c {w} here e h =
     let few : w ≤ 6 = rw e (here .few) in
     let room : getD (drop at s) 0 0 * predWidth (predOf (drop pred t)) ≤ length (drop 1 (drop at s)) = wide-room _ _ _ (here .wide) in
     let size : c .count * c .step ≡ getD (drop at s) 0 0 * predWidth (predOf (drop pred t)) = rw (h .count, h .step, e) in
-    record {
-      apart = omega (arith, h .step, h .apart);
-      narrow = omega (arith, h .step);
-      reach = omega (arith, h .step, h .apart, h .inside, h .near, length-drop 1 (drop at s), length-drop at s);
-    }
+    record { apart = omega arith; narrow = omega arith; reach = omega (arith, length-drop 1 (drop at s), length-drop at s) }
 
 -- ---- the predicates left have few roles and whole rows
 
 module _ (t s starts : List ℕ) (pred k n : ℕ) (st : Standing t s starts pred k n) (h : 0 < n) where
+  pub standing-inside : pred + predLength (drop pred t) ≤ length t
+  standing-inside = ahead-here t pred n (st .pending .ahead) h
+
   pub standing-here : {at : ℕ} → at ≡ getD starts k 0 → PredHere t s pred at
   unfolding contents
   standing-here e =
-      let few : Each (λ (p : Predicate). predWidth p ≤ 6) (predOf (drop pred t) ∷ predsIn (n - 1) (drop (pred + predLength (drop pred t)) t)) =
-      rw (preds-more t pred n h refl) at (st .few) in
       let wide = rw (preds-more t pred n h refl) at (st .wide) in
       record {
-        inside = ahead-here t pred n (st .ahead) h;
-        few = each-head _ few;
+        inside = standing-inside;
+        few = each-head (λ (p : Predicate). predWidth p ≤ 6) (rw (preds-more t pred n h refl) at (st .few));
         wide = rw e (wide .0);
       }
-
-  pub standing-inside : pred + predLength (drop pred t) ≤ length t
-  standing-inside = ahead-here t pred n (st .ahead) h
-
-  -- the width of the block here, and of those behind it
-  widths-here : (next : ℕ) → next ≡ pred + predLength (drop pred t)
-      → drop k (blockWidths (diagramOf t)) ≡ predWidth (predOf (drop pred t)) ∷ map predWidth (predsIn (n - 1) (drop next t))
-  widths-here next q = st .widths ∙ ap (map predWidth) (preds-more t pred n h q)
 
   -- the next block starts where this one ends
   pub standing-next : drop (getD starts (k + 1) 0) s
       ≡ drop (blockLength (predWidth (predOf (drop pred t))) (drop (getD starts k 0) s)) (drop (getD starts k 0) s)
-  standing-next =
-      let here = widths-here (pred + predLength (drop pred t)) refl in
-      block-next (st .located) k _
-      (omega (arith, length-drop k (blockWidths (diagramOf t)), ap length here))
-      (ap (λ (i : ℕ). getD (blockWidths (diagramOf t)) i 0) (sym (add-zero k)) ∙ sym (getD-drop k (blockWidths (diagramOf t)) 0 0) ∙ ap (λ (ws : List ℕ). getD ws 0 0) here)
+  standing-next = block-next (st .located) k _ (pending-wide (st .pending) h refl)
 
   pub standing-more : (next : ℕ) → next ≡ pred + predLength (drop pred t) → Standing t s starts next (k + 1) (n - 1)
   unfolding contents
   standing-more next q =
-      let few : Each (λ (p : Predicate). predWidth p ≤ 6) (predOf (drop pred t) ∷ predsIn (n - 1) (drop next t)) =
-      rw (preds-more t pred n h q) at (st .few) in
       let wide = rw (preds-more t pred n h q) at (st .wide) in
       record {
         located = st .located;
-        ahead = ahead-more t pred n (st .ahead) h q;
-        few = each-tail _ few;
-        widths = sym (drop-drop 1 k (blockWidths (diagramOf t))) ∙ ap (drop 1) (widths-here next q);
+        pending = pending-more (st .pending) h q;
+        few = each-tail (λ (p : Predicate). predWidth p ≤ 6) (rw (preds-more t pred n h q) at (st .few));
         wide = rw standing-next (wide .1);
       }
 
@@ -105,8 +83,7 @@ standing-start t s starts pred k n j l e g q r =
     let formed = j .valid .formed .preds in
     record {
       located = l;
-      ahead = ahead-start t (valid-walkable (j .valid)) e g;
+      pending = pending-start t pred k n 0 (valid-walkable (j .valid)) e g (omega arith) (omega arith);
       few = rw (e, g) (λ p m. formed p m .arity .1);
-      widths = rw (f, widths-behind t, e, g);
       wide = rw (e, g, f, starts-preds l) (shaped .preds);
     }

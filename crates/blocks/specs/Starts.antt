@@ -1,239 +1,206 @@
--- Where the blocks of cells start that are cut whole, and what stands there, by the number of a type or predicate.
-use Prim.Native.Nat.{ℕ, zero, suc, _+_, _≤_, _<_}
+-- Where the blocks of cells start: a walk that writes it down, and what stands there, by the number of a type or predicate.
+use Prim.Native.Nat.{ℕ, zero, suc, _+_, _*_, _-_, _≤_, _<_}
 use native.Mathlib.Numerals.{add-one}
 use native.Mathlib.Nat.{add-zero}
 use native.Mathlib.Omega.{arith}
 use mathlib.Core.Path.{_≡_, refl, sym, ap, _∙_}
-use mathlib.Core.Bool.{Bool, true, false}
 use mathlib.Core.List.{List, [], _∷_, _++_, map}
-use lib.ListN.{length, getD, take, drop, replicate, length-append, length-drop, length-replicate, length-map, getD-replicate, List·getD-append}
-use lib.Seq.{drop-drop, drop-at, take-append-le, take-append-add}
-use Rattle.orm.specs.Diagram.{ObjectType, Predicate, Diagram}
+use lib.ListN.{length, getD, take, drop, set, length-append, length-drop, length-map, length-set}
+use lib.Seq.{sets, sets-eq, length-sets, drop-at, drop-cons, drop-drop, take-suc, take-append-le, take-append-add}
+use Rattle.counting.specs.Laws.Index.{At, at-getD, at-below, below-at, at-map, at-append-left}
+use Rattle.orm.specs.Diagram.{ObjectType, Predicate}
 use Rattle.orm.specs.Form.{typeOf}
 use Rattle.orm.specs.Outcome.{accepted}
-use Rattle.orm.specs.Population.{Population}
 use Rattle.orm.specs.Calls.{populationIn}
-use Rattle.table.specs.Positions.{typeCount, predCount, firstPredAt, diagramOf, Walkable}
+use Rattle.table.specs.Positions.{predOf, predLength, predsIn, typeCount, predCount, firstPredAt, diagramOf, Walkable}
+use Rattle.table.specs.Cursors.{Ahead}
 use Rattle.table.specs.Valid.{Valid}
-use Rattle.table.specs.Laws.Valid.{valid-walkable}
-use Rattle.table.specs.Laws.Walks.{each-length, preds-length}
-use Rattle.blocks.specs.declared.End.{End}
-use Rattle.blocks.specs.declared.End.the-variants.{At, Short}
+use Rattle.table.specs.Laws.Walks.{each-length, preds-length, preds-more, preds-none, ahead-start, ahead-more}
 use Rattle.blocks.specs.declared.Extent.{Extent}
 use Rattle.blocks.specs.declared.Extent.the-variants.{Whole}
-use Rattle.blocks.specs.Blocks.{blockLength, blockFits, membersAt, rowsAt, behind, contents, typeWidth, predWidth, behindTypes, populationAt, endOf, extentOf, blockWidths, startsOf, writtenOver}
-use Rattle.blocks.specs.Cuts.{fits-length, ones, extent-no-types, extent-no-preds}
+use Rattle.blocks.specs.Blocks.{blockLength, mostCells, membersAt, rowsAt, endOf, contents, typeWidth, predWidth, behindTypes, populationAt}
+use Rattle.blocks.specs.Blocks.{extentOf, blockWidths, startsOf}
+use Rattle.blocks.specs.Cuts.{end-append}
+
+-- The widths of the blocks of a table's diagram
+abbrev pub widthsIn : List ℕ → List ℕ
+widthsIn t = blockWidths (diagramOf t)
 
 -- A valid table, and cells that are cut whole
 pub record Populated (t s : List ℕ) : Type 0 where
   pub valid : Valid t
   pub whole : populationIn (diagramOf t) s ≡ accepted (populationAt (diagramOf t) s)
 
--- `starts` holds where each block of the cells starts
+-- `starts` holds where each block of the cells starts, which is where those before it end, and the end of all
 pub record Located (t s starts : List ℕ) : Type 0 where
-  pub long : length starts ≡ 65
   pub first : getD starts 0 0 ≡ 0
-  pub next : (i : ℕ) → i < length (blockWidths (diagramOf t))
-      → getD starts (i + 1) 0 ≡ getD starts i 0 + blockLength (getD (blockWidths (diagramOf t)) i 0) (drop (getD starts i 0) s)
-  pub inside : (i : ℕ) → i ≤ length (blockWidths (diagramOf t)) → getD starts i 0 ≤ length s
+  pub each : (i : ℕ) → i ≤ length (widthsIn t) → getD starts i 0 ≡ endOf s (take i (widthsIn t)) 0
 
--- ---- the starts of blocks that are all there whole
+-- ---- the blocks of a table
 
-record Steps (s ws : List ℕ) (at : ℕ) (l : List ℕ) : Type 0 where
-  first : getD l 0 0 ≡ at
-  next : (i : ℕ) → i < length ws → getD l (suc i) 0 ≡ getD l i 0 + blockLength (getD ws i 0) (drop (getD l i 0) s)
-  inside : (i : ℕ) → i ≤ length ws → getD l i 0 ≤ length s
-
-module _ (s : List ℕ) where
-  steps-cons : (w : ℕ) (ws l : List ℕ) (at : ℕ) → at ≤ length s → Steps s ws (at + blockLength w (drop at s)) l → Steps s (w ∷ ws) at (at ∷ l)
-  steps-cons w ws l at h r = record { first = refl; next = next; inside = inside }
-    where
-      next : (i : ℕ) → i < suc (length ws) → getD (at ∷ l) (suc i) 0 ≡ getD (at ∷ l) i 0 + blockLength (getD (w ∷ ws) i 0) (drop (getD (at ∷ l) i 0) s)
-      next zero k = r .first
-      next (suc i) k = r .next i (omega arith)
-
-      inside : (i : ℕ) → i ≤ suc (length ws) → getD (at ∷ l) i 0 ≤ length s
-      inside zero k = h
-      inside (suc i) k = r .inside i (omega arith)
-
-  steps : (ws rest : List ℕ) (at e : ℕ) → endOf s ws at ≡ At e → at ≤ length s → Steps s ws at (startsOf s ws at ++ rest)
-  unfolding endOf startsOf
-  steps [] rest at e h a = record { first = refl; next = λ i k. absurd (omega arith); inside = λ i k. (let z : i ≡ 0 = omega arith in rw z a) }
-  steps (w ∷ ws) rest at e h a = go (blockFits w (drop at s)) refl h (steps ws rest (at + blockLength w (drop at s)) e)
-    where
-      go : (b : Bool) → blockFits w (drop at s) ≡ b → elim b [ true ↦ endOf s ws (at + blockLength w (drop at s)) | false ↦ Short ] ≡ At e
-          → (endOf s ws (at + blockLength w (drop at s)) ≡ At e → at + blockLength w (drop at s) ≤ length s
-          → Steps s ws (at + blockLength w (drop at s)) (startsOf s ws (at + blockLength w (drop at s)) ++ rest))
-          → Steps s (w ∷ ws) at (at ∷ elim b [ true ↦ startsOf s ws (at + blockLength w (drop at s)) | false ↦ [] ] ++ rest)
-      go false p q ih = let z : _≡_ {A = ℕ} 0 1 = cc in absurd (omega arith)
-      go true p q ih = steps-cons w ws _ at a (ih q (omega (arith, fits-length w (drop at s) p, length-drop at s)))
-
-  end-append : (ws vs : List ℕ) (at e : ℕ) → endOf s ws at ≡ At e → endOf s (ws ++ vs) at ≡ endOf s vs e
-  unfolding endOf
-  end-append [] vs at e h = let z : at ≡ e = cc in rw z
-  end-append (w ∷ ws) vs at e h = go (blockFits w (drop at s)) h (end-append ws vs (at + blockLength w (drop at s)) e)
-    where
-      go : (b : Bool) → elim b [ true ↦ endOf s ws (at + blockLength w (drop at s)) | false ↦ Short ] ≡ At e
-          → (endOf s ws (at + blockLength w (drop at s)) ≡ At e → endOf s (ws ++ vs) (at + blockLength w (drop at s)) ≡ endOf s vs e)
-          → _≡_ {A = End} (elim b [ true ↦ endOf s (ws ++ vs) (at + blockLength w (drop at s)) | false ↦ Short ]) (endOf s vs e)
-      go true q ih = ih q
-      go false q ih = let z : _≡_ {A = ℕ} 0 1 = cc in absurd (omega arith)
-
-  pub starts-few : (ws : List ℕ) (at : ℕ) → length (startsOf s ws at) ≤ suc (length ws)
-  unfolding startsOf
-  starts-few [] at = omega arith
-  starts-few (w ∷ ws) at = go (blockFits w (drop at s)) (starts-few ws (at + blockLength w (drop at s)))
-    where
-      go : (b : Bool) → length (startsOf s ws (at + blockLength w (drop at s))) ≤ suc (length ws)
-          → suc (length {A = ℕ} (elim b [ true ↦ startsOf s ws (at + blockLength w (drop at s)) | false ↦ [] ])) ≤ suc (suc (length ws))
-      go true h = omega arith
-      go false h = omega arith
-
--- ---- cells that are cut whole
-
--- Where their blocks end
-record Ended (d : Diagram) (s : List ℕ) : Type 0 where
-  to : ℕ
-  is : endOf s (blockWidths d) 0 ≡ At to
-
-ended : (d : Diagram) (s : List ℕ) (o : Population) → populationIn d s ≡ accepted o → Ended d s
-unfolding blockWidths
-ended d s o h = types (endOf s (replicate (length (d .types)) 1) 0) refl
-  where
-    preds : (from : ℕ) → endOf s (replicate (length (d .types)) 1) 0 ≡ At from → (e : End) → endOf s (map predWidth (d .preds)) from ≡ e → Ended d s
-    preds from p Short q = let z : _≡_ {A = ℕ} 0 1 = cc (extent-no-preds d s from p q) in absurd (omega arith)
-    preds from p (At to) q = record { to = to; is = end-append s (replicate (length (d .types)) 1) (map predWidth (d .preds)) 0 from p ∙ q }
-
-    types : (e : End) → endOf s (replicate (length (d .types)) 1) 0 ≡ e → Ended d s
-    types Short p = let z : _≡_ {A = ℕ} 0 1 = cc (extent-no-types d s p) in absurd (omega arith)
-    types (At from) p = preds from p (endOf s (map predWidth (d .preds)) from) refl
-
-pub types-count : (t : List ℕ) → length (diagramOf t .types) ≡ typeCount t
+types-count : (t : List ℕ) → length (diagramOf t .types) ≡ typeCount t
 unfolding diagramOf
 types-count t = each-length typeOf 6 (typeCount t) (drop 2 t)
 
-pub preds-count : (t : List ℕ) → length (diagramOf t .preds) ≡ predCount t
+preds-count : (t : List ℕ) → length (diagramOf t .preds) ≡ predCount t
 unfolding diagramOf
 preds-count t = preds-length (predCount t) (drop (firstPredAt t) t)
 
-widths-long : (d : Diagram) → length (blockWidths d) ≡ length (d .types) + length (d .preds)
+widths-count : (t : List ℕ) → length (widthsIn t) ≡ typeCount t + predCount t
 unfolding blockWidths
-widths-long d = simp (length-append, length-replicate, length-map)
+widths-count t = simp (length-append, length-map, types-count t, preds-count t)
 
-type-width : (d : Diagram) (i : ℕ) → i < length (d .types) → getD (blockWidths d) i 0 ≡ 1
+-- `left` types are left from that with number `i` on
+pub type-wide : (t : List ℕ) (i left : ℕ) → i + left ≡ typeCount t → 0 < left → At 1 (widthsIn t) i
 unfolding blockWidths
-type-width d i h =
-    let k : i < length (replicate {A = ℕ} (length (d .types)) 1) = omega (arith, length-replicate {A = ℕ} (length (d .types)) 1) in
-    List·getD-append (replicate (length (d .types)) 1) (map predWidth (d .preds)) 0 i k ∙ getD-replicate (length (d .types)) i 1 0 h
+type-wide t i left e h = at-append-left _ (at-map typeWidth (below-at (diagramOf t .types) i (omega (arith, types-count t)) .1))
 
--- the widths of the blocks before a type's, and before a predicate's
-widths-types : (d : Diagram) (i : ℕ) → i ≤ length (d .types) → take i (blockWidths d) ≡ take i (map typeWidth (d .types))
-unfolding blockWidths
-widths-types d i h =
-    let k : i ≤ length (map typeWidth (d .types)) = omega (arith, length-map (d .types) typeWidth) in
-    rw (← ones (d .types)) (take-append-le i (map typeWidth (d .types)) (map predWidth (d .preds)) k)
+-- ---- the predicates left
 
-widths-preds : (d : Diagram) (i : ℕ)
-    → take (length (d .types) + i) (blockWidths d) ≡ replicate (length (d .types)) 1 ++ take i (map predWidth (d .preds))
-unfolding blockWidths
-widths-preds d i =
-    rw (← ones (d .types), ← length-map (d .types) typeWidth) (take-append-add (map typeWidth (d .types)) (map predWidth (d .preds)) i)
+-- The `n` predicates from `pred` of the table on stand there, and theirs are the blocks from that with number `k` on
+pub record Pending (t : List ℕ) (pred k n : ℕ) : Type 0 where
+  pub ahead : Ahead t pred n
+  pub widths : drop k (widthsIn t) ≡ map predWidth (predsIn n (drop pred t))
 
-pub widths-behind : (t : List ℕ) → drop (typeCount t) (blockWidths (diagramOf t)) ≡ map predWidth (diagramOf t .preds)
-unfolding blockWidths
-widths-behind t =
-    drop-at (replicate (length (diagramOf t .types)) 1) (map predWidth (diagramOf t .preds)) (typeCount t)
-    (length-replicate (length (diagramOf t .types)) 1 ∙ types-count t)
+pub pending-start : (t : List ℕ) (pred k n left : ℕ) → Walkable t → pred ≡ firstPredAt t → n ≡ predCount t → k + left ≡ typeCount t → left ≤ 0
+    → Pending t pred k n
+unfolding blockWidths diagramOf
+pending-start t pred k n left w e g f h =
+    let long : length (map typeWidth (diagramOf t .types)) ≡ k = rw length-map (omega (arith, types-count t)) in
+    let behind : drop k (widthsIn t) ≡ map predWidth (diagramOf t .preds) = drop-at (map typeWidth (diagramOf t .types)) _ k long in
+    record { ahead = ahead-start t w e g; widths = rw (e, g) behind }
 
--- a table that can be walked has at most 64 blocks
-pub widths-few : (t : List ℕ) → Walkable t → length (blockWidths (diagramOf t)) ≤ 64
-widths-few t w =
-    omega (arith, widths-long (diagramOf t), types-count t, preds-count t, w .few-types, w .few-preds)
+module _ {t : List ℕ} {pred k n : ℕ} (p : Pending t pred k n) (h : 0 < n) where
+  -- the width of the block here, and of those behind it
+  widths-here : (next : ℕ) → next ≡ pred + predLength (drop pred t)
+      → drop k (widthsIn t) ≡ predWidth (predOf (drop pred t)) ∷ map predWidth (predsIn (n - 1) (drop next t))
+  widths-here next q = p .widths ∙ ap (map predWidth) (preds-more t pred n h q)
+
+  pub pending-wide : {w : ℕ} → w ≡ predWidth (predOf (drop pred t)) → At w (widthsIn t) k
+  pending-wide e =
+      let here = widths-here (pred + predLength (drop pred t)) refl in
+      let there : k < length (widthsIn t) = omega (arith, length-drop k (widthsIn t), ap length here) in
+      let m = below-at (widthsIn t) k there in
+      let q : m .0 ≡ predWidth (predOf (drop pred t)) = cc (drop-cons (widthsIn t) k 0 there, here, at-getD 0 (m .1)) in
+      rw (e, ← q) (m .1)
+
+  pub pending-more : {next : ℕ} → next ≡ pred + predLength (drop pred t) → Pending t next (k + 1) (n - 1)
+  pending-more {next} q =
+      record { ahead = ahead-more t pred n (p .ahead) h q; widths = sym (drop-drop 1 k (widthsIn t)) ∙ ap (drop 1) (widths-here next q) }
+
+-- ---- the walk
+
+-- A walk from block `k₀` at `at₀` has come to block `k` at `at`: the starts left come to the same list, and the end is the same
+pub record Walk (t s starts₀ : List ℕ) (k₀ at₀ : ℕ) (starts : List ℕ) (k at : ℕ) : Type 0 where
+  pub long : length starts ≡ 65
+  pub near : at ≤ k * mostCells
+  pub end : endOf s (drop k (widthsIn t)) at ≡ endOf s (drop k₀ (widthsIn t)) at₀
+  pub rest : sets starts k (startsOf s (drop k (widthsIn t)) at) ≡ sets starts₀ k₀ (startsOf s (drop k₀ (widthsIn t)) at₀)
+
+pub walk-start : (t s starts : List ℕ) (k at : ℕ) → length starts ≡ 65 → at ≤ k * mostCells → Walk t s starts k at starts k at
+walk-start t s starts k at h n = record { long = h; near = n; end = refl; rest = refl }
+
+module _ {t s starts₀ : List ℕ} {k₀ at₀ : ℕ} {starts : List ℕ} {k at : ℕ} (i : Walk t s starts₀ k₀ at₀ starts k at) where
+  pub walk-more : {w next : ℕ} → next ≡ at + blockLength w (drop at s) → next ≤ at + mostCells → At w (widthsIn t) k
+      → Walk t s starts₀ k₀ at₀ (set starts k at) (k + 1) next
+  unfolding endOf startsOf
+  walk-more {w} {next} q b h =
+      let here : drop k (widthsIn t) ≡ w ∷ drop (k + 1) (widthsIn t) =
+      rw add-one (rw (at-getD 0 h) at (drop-cons (widthsIn t) k 0 (at-below h))) in
+      record {
+        long = length-set starts k at ∙ i .long;
+        near = omega arith;
+        end = rw q (rw here at (i .end));
+        rest = rw (q, add-one k) (rw (here, add-one) at (i .rest));
+      }
+
+-- the types' blocks and then the predicates', of which none is left
+module _ {t s starts₀ starts₁ starts : List ℕ} {k₁ at₁ k at pred n : ℕ} (p : Pending t pred k n) (h : n ≤ 0)
+    (i : Walk t s starts₀ 0 0 starts₁ k₁ at₁) (j : Walk t s starts₁ k₁ at₁ starts k at) where
+  pub all-written : (at ≡ endOf s (widthsIn t) 0) × (set starts k at ≡ sets starts₀ 0 (startsOf s (widthsIn t) 0))
+  unfolding endOf startsOf
+  all-written =
+      let none : drop k (widthsIn t) ≡ [] = p .widths ∙ rw (preds-none n (drop pred t) h) in
+      ((rw none at (j .end)) ∙ i .end, (rw none at (j .rest)) ∙ i .rest)
+
+  pub all-long : length (set starts k at) ≡ length starts₀
+  all-long = ap length (all-written .1) ∙ length-sets starts₀ 0 (startsOf s (widthsIn t) 0)
+
+-- ---- cells that are cut
+
+module _ (s : List ℕ) where
+  starts-each : (ws rest : List ℕ) (at i : ℕ) → i ≤ length ws → getD (startsOf s ws at ++ rest) i 0 ≡ endOf s (take i ws) at
+  unfolding startsOf endOf
+  starts-each [] rest at zero h = refl
+  starts-each [] rest at (suc i) h = absurd (omega arith)
+  starts-each (w ∷ ws) rest at zero h = refl
+  starts-each (w ∷ ws) rest at (suc i) h = starts-each ws rest (at + blockLength w (drop at s)) i (omega arith)
+
+  length-starts : (ws : List ℕ) (at : ℕ) → length (startsOf s ws at) ≡ suc (length ws)
+  unfolding startsOf
+  length-starts [] at = refl
+  length-starts (w ∷ ws) at = ap suc (length-starts ws (at + blockLength w (drop at s)))
 
 module _ (t s : List ℕ) {r : Extent} (v : Valid t) (p : populationIn (diagramOf t) s ≡ extentOf (populationAt (diagramOf t) s) r) (q : r ≡ Whole) where
   pub populated : Populated t s
   populated = record { valid = v; whole = p ∙ ap (extentOf (populationAt (diagramOf t) s)) q }
 
-  pub located : (old : List ℕ) {starts : List ℕ} → starts ≡ writtenOver (startsOf s (blockWidths (diagramOf t)) 0) old → length old ≡ 65
-      → Located t s starts
-  unfolding writtenOver
-  located old e h =
-      let few : length (startsOf s (blockWidths (diagramOf t)) 0) ≤ suc (length (blockWidths (diagramOf t))) = starts-few s (blockWidths (diagramOf t)) 0 in
-      let all = ended (diagramOf t) s (populationAt (diagramOf t) s) (populated .whole) in
-      let st = steps s (blockWidths (diagramOf t)) (drop (length (startsOf s (blockWidths (diagramOf t)) 0)) old) 0 (all .to) (all .is) (omega arith) in
-      rw e
-      (record {
-        long = omega (arith, length-append (startsOf s (blockWidths (diagramOf t)) 0) (drop (length (startsOf s (blockWidths (diagramOf t)) 0)) old), length-drop (length (startsOf s (blockWidths (diagramOf t)) 0)) old, widths-few t (valid-walkable v));
-        first = st .first;
-        next = λ i k. rw add-one (st .next i k);
-        inside = st .inside;
-      })
+pub located : (t s : List ℕ) (v : Walkable t) (old : List ℕ) {starts : List ℕ} → starts ≡ sets old 0 (startsOf s (widthsIn t) 0) → length old ≡ 65
+    → Located t s starts
+unfolding endOf
+located t s v old e h =
+    let long = length-starts s (widthsIn t) 0 in
+    let few : 0 + length (startsOf s (widthsIn t) 0) ≤ length old = omega (arith, widths-count t) in
+    rw (e, sets-eq (startsOf s (widthsIn t) 0) old 0 few)
+    (record { first = starts-each s (widthsIn t) _ 0 0 (omega arith); each = starts-each s (widthsIn t) _ 0 })
 
 -- ---- what stands at a start
 
-behind-suc : (ws : List ℕ) (i : ℕ) (s : List ℕ) → i < length ws
-    → behind (take (suc i) ws) s ≡ drop (blockLength (getD ws i 0) (behind (take i ws) s)) (behind (take i ws) s)
-unfolding behind
-behind-suc [] i s h = absurd (omega arith)
-behind-suc (w ∷ ws) zero s h = refl
-behind-suc (w ∷ ws) (suc i) s h = behind-suc ws i (drop (blockLength w s) s) (omega arith)
-
-behind-append : (ws vs s : List ℕ) → behind (ws ++ vs) s ≡ behind vs (behind ws s)
-unfolding behind
-behind-append [] vs s = refl
-behind-append (w ∷ ws) vs s = behind-append ws vs (drop (blockLength w s) s)
-
 -- the content of the block with a number
-module _ {X A : Type 0} (width : X → ℕ) (content : X → List ℕ → A) (x : X) (a : A) where
-  content-at : (xs : List X) (i : ℕ) (s : List ℕ) → i < length xs
-      → content (getD xs i x) (behind (take i (map width xs)) s) ≡ getD (contents width content xs s) i a
-  unfolding contents behind
-  content-at [] i s h = absurd (omega arith)
-  content-at (y ∷ ys) zero s h = refl
-  content-at (y ∷ ys) (suc i) s h = content-at ys i (drop (blockLength (width y) s) s) (omega arith)
+module _ (s : List ℕ) {X A : Type 0} (width : X → ℕ) (content : X → List ℕ → A) (x : X) (a : A) where
+  content-at : (xs : List X) (at i : ℕ) → i < length xs
+      → content (getD xs i x) (drop (endOf s (take i (map width xs)) at) s) ≡ getD (contents width content xs (drop at s)) i a
+  unfolding contents endOf
+  content-at [] at i h = absurd (omega arith)
+  content-at (y ∷ ys) at zero h = refl
+  content-at (y ∷ ys) at (suc i) h = rw (drop-drop _ at s) (content-at ys (at + blockLength (width y) (drop at s)) i (omega arith))
 
 module _ {t s starts : List ℕ} (l : Located t s starts) where
   -- the next block starts where this one ends
-  pub block-next : (i w : ℕ) → i < length (blockWidths (diagramOf t)) → getD (blockWidths (diagramOf t)) i 0 ≡ w
+  pub block-next : (i w : ℕ) → At w (widthsIn t) i
       → drop (getD starts (i + 1) 0) s ≡ drop (blockLength w (drop (getD starts i 0) s)) (drop (getD starts i 0) s)
-  block-next i w h e =
-      ap (λ (a : ℕ). drop a s) (rw e at (l .next i h)) ∙ sym (drop-drop (blockLength w (drop (getD starts i 0) s)) (getD starts i 0) s)
+  unfolding endOf
+  block-next i w m =
+      let h : i < length (widthsIn t) = at-below m in
+      rw (drop-drop, add-one, l .each (suc i) h, take-suc (widthsIn t) i 0 h, end-append, at-getD 0 m, l .each i (omega arith))
 
-  start-behind : (i : ℕ) → i ≤ length (blockWidths (diagramOf t)) → drop (getD starts i 0) s ≡ behind (take i (blockWidths (diagramOf t))) s
-  unfolding behind
-  start-behind zero h = rw (l .first)
-  start-behind (suc i) h = rw (behind-suc (blockWidths (diagramOf t)) i s h, ← start-behind i (omega arith), ← add-one i) (block-next i _ h refl)
+  pub type-next : (i : ℕ) → i < typeCount t → drop (getD starts (i + 1) 0) s ≡ drop (blockLength 1 (drop (getD starts i 0) s)) (drop (getD starts i 0) s)
+  type-next i h = block-next i 1 (type-wide t i (typeCount t - i) (omega arith) (omega arith))
 
   -- the block of the type with a number
   pub type-block : (i : ℕ) → i < length (diagramOf t .types) → membersAt (drop (getD starts i 0) s) ≡ getD (populationAt (diagramOf t) s .types) i []
-  unfolding populationAt
+  unfolding populationAt blockWidths
   type-block i h =
-      let k : i ≤ length (diagramOf t .types) = omega arith in
-      rw (start-behind i (omega (arith, widths-long (diagramOf t))), widths-types (diagramOf t) i k)
-      (content-at typeWidth (λ (o : ObjectType). membersAt) (typeOf []) [] (diagramOf t .types) i s h)
+      let k : i ≤ length (map typeWidth (diagramOf t .types)) = rw length-map (omega arith) in
+      rw (l .each i (omega (arith, widths-count t, types-count t)), take-append-le i (map typeWidth (diagramOf t .types)) _ k)
+      (content-at s typeWidth (λ (o : ObjectType). membersAt) (typeOf []) [] (diagramOf t .types) 0 i h)
 
-  behind-preds : (i : ℕ) → i ≤ length (diagramOf t .preds)
-      → drop (getD starts (length (diagramOf t .types) + i) 0) s ≡ behind (take i (map predWidth (diagramOf t .preds))) (behindTypes (diagramOf t) s)
-  unfolding behindTypes
-  behind-preds i h =
-      start-behind (length (diagramOf t .types) + i) (omega (arith, widths-long (diagramOf t)))
-      ∙ ap (λ (ws : List ℕ). behind ws s) (widths-preds (diagramOf t) i)
-      ∙ behind-append (replicate (length (diagramOf t .types)) 1) (take i (map predWidth (diagramOf t .preds))) s
+  start-pred : (i : ℕ) → i ≤ length (diagramOf t .preds)
+      → getD starts (length (diagramOf t .types) + i) 0 ≡ endOf s (take i (map predWidth (diagramOf t .preds))) (endOf s (map typeWidth (diagramOf t .types)) 0)
+  unfolding blockWidths
+  start-pred i h =
+      l .each (length (diagramOf t .types) + i) (omega (arith, widths-count t, types-count t, preds-count t))
+      ∙ rw (← length-map (diagramOf t .types) typeWidth, take-append-add, end-append)
 
   -- the block of the predicate with a number
   pub pred-block : (i : ℕ) (p : Predicate) → i < length (diagramOf t .preds)
       → rowsAt (predWidth (getD (diagramOf t .preds) i p)) (drop (getD starts (length (diagramOf t .types) + i) 0) s) ≡ getD (populationAt (diagramOf t) s .preds) i []
-  unfolding populationAt
+  unfolding populationAt behindTypes
   pred-block i p h =
-      rw (behind-preds i (omega arith))
-      (content-at predWidth (λ (q : Predicate). rowsAt (predWidth q)) p [] (diagramOf t .preds) i (behindTypes (diagramOf t) s) h)
+      rw (start-pred i (omega arith))
+      (content-at s predWidth (λ (q : Predicate). rowsAt (predWidth q)) p [] (diagramOf t .preds) _ i h)
 
   -- the predicates' blocks stand behind the types'
   pub starts-preds : drop (getD starts (typeCount t) 0) s ≡ behindTypes (diagramOf t) s
-  unfolding behind
-  starts-preds = rw (← types-count t, ← add-zero (length (diagramOf t .types))) (behind-preds 0 (omega arith))
-
-  pub type-next : (i : ℕ) → i < typeCount t → drop (getD starts (i + 1) 0) s ≡ drop (blockLength 1 (drop (getD starts i 0) s)) (drop (getD starts i 0) s)
-  type-next i h =
-      let k : i < length (diagramOf t .types) = omega (arith, types-count t) in
-      block-next i 1 (omega (arith, widths-long (diagramOf t))) (type-width (diagramOf t) i k)
+  unfolding behindTypes endOf
+  starts-preds = rw (← types-count t, ← add-zero (length (diagramOf t .types)), start-pred 0 (omega arith))

@@ -1,7 +1,6 @@
--- `blocks::cut` meets its contract. Each arm is one of the ways in which the types' blocks end.
+-- `blocks::cut` meets its contract. Each arm is one of the ways in which the blocks end.
 -- Assumes nothing.
-use Rattle.blocks.specs.Extents.{all-short, types-told}
-use Rattle.blocks.specs.Walks.{written-short, written-all}
+use Rattle.blocks.specs.Cuts.{cells-surplus, cells-short, cells-whole}
 use borrow.Author.Needs.{needs}
 use Rattle.blocks.proofs.cut.Statement.{statement}
 use Rattle.blocks.proofs.cut.Tie as tie
@@ -12,9 +11,8 @@ cut-spec =
     (tie.spec
     (λ c κs. search needs)
     (λ c. search needs)
+    (λ c. search (needs, cells-surplus))
     (λ c. search needs)
-    (λ c κs. (search needs, (search (needs, types-told), search needs)))
+    (λ c. search (needs, cells-short))
     (λ c. search needs)
-    (λ c. search (needs, all-short, written-short))
-    (λ c. search needs)
-    (λ c. search (needs, written-all)))
+    (λ c. search (needs, cells-whole)))

@@ -2,31 +2,31 @@
 use Prim.Native.Nat.{ℕ, suc, _+_, _-_, _≤_, _<_}
 use native.Mathlib.Numerals.{add-one}
 use native.Mathlib.Omega.{arith}
-use mathlib.Core.Path.{_≡_, refl}
+use mathlib.Core.Path.{_≡_}
 use mathlib.Core.Bool.{Bool, true, false}
 use mathlib.Core.List.{List}
 use lib.ListN.{getD, set}
-use borrow.Author.Tests.{ne-eqb}
+use borrow.Author.Tests.{ne-eqb, lt-ltb, le-ltb}
 use Rattle.orm.specs.Constraints.{valid, breaks}
 use Rattle.faults.specs.Faults.{unless, isLower, noted, lowered, firstEntry}
-
-pub lower-none : (n m : ℕ) → m ≡ 0 → true ≡ isLower n m
-unfolding isLower
-lower-none n m e = rw e
 
 module _ (b : Bool) (k n : ℕ) (e : List ℕ) where
   pub note-kept : b ≡ true → e ≡ lowered (unless b k n) e
   unfolding unless lowered
   note-kept h = rw h
 
-  module _ {v : ℕ} {c : Bool} (h : b ≡ false) (q : v ≡ getD e k 0) (p : c ≡ isLower n v) where
-    pub note-lower : c ≡ true → set e k n ≡ lowered (unless b k n) e
-    unfolding unless lowered noted
-    note-lower z = rw (h, noted, ← q, ← p, z)
+  module _ (h : b ≡ false) where
+    pub note-first : getD e k 0 ≡ 0 → set e k n ≡ lowered (unless b k n) e
+    unfolding unless lowered noted isLower
+    note-first z = rw (h, noted, z)
 
-    pub note-higher : c ≡ false → e ≡ lowered (unless b k n) e
-    unfolding unless lowered noted
-    note-higher z = rw (h, noted, ← q, ← p, z)
+    pub note-lower : ¬ (getD e k 0 ≡ 0) → n < getD e k 0 → set e k n ≡ lowered (unless b k n) e
+    unfolding unless lowered noted isLower
+    note-lower z l = rw (h, noted, ne-eqb (getD e k 0) 0 z, lt-ltb n (getD e k 0) l)
+
+    pub note-higher : ¬ (getD e k 0 ≡ 0) → getD e k 0 ≤ n → e ≡ lowered (unless b k n) e
+    unfolding unless lowered noted isLower
+    note-higher z l = rw (h, noted, ne-eqb (getD e k 0) 0 z, le-ltb n (getD e k 0) l)
 
 -- ---- the first entry
 

@@ -5,7 +5,7 @@ ghost use mathlib.Core.Path.{_≡_};
 ghost use mathlib.Core.Bool.{_&&_};
 ghost use Prim.Native.Nat.{_+_, _<_};
 ghost use lib.ListN.{length};
-ghost use Rattle.faults.specs.Faults.{unless, isLower, lowered, noEntries, firstEntry, answerOf};
+ghost use Rattle.faults.specs.Faults.{unless, lowered, noEntries, firstEntry, answerOf};
 
 // The lowest broken constraint with the lowest number that breaks it.
 pub enum Verdict {
@@ -23,15 +23,6 @@ pub fn both(a: bool, b: bool) -> bool
     false
 }
 
-fn is_lower(number: u32, entry: u32) -> bool
-    ensures { λ r. ⌜ r ≡ isLower number entry ⌝ }
-{
-    if entry == 0 {
-        return true;
-    }
-    number < entry
-}
-
 // The number breaks constraint k, unless that is kept.
 pub fn note(kept: bool, k: usize, number: u32, lowest: &mut [u32])
     requires { ⌜ k < length (now lowest) ⌝ }
@@ -40,7 +31,8 @@ pub fn note(kept: bool, k: usize, number: u32, lowest: &mut [u32])
     if kept {
         return;
     }
-    if is_lower(number, lowest[k]) {
+    let entry = lowest[k];
+    if entry == 0 || number < entry {
         lowest[k] = number;
     }
 }
@@ -60,10 +52,8 @@ pub fn first(lowest: &[u32]) -> Verdict
     while k < 12 {
         let number = lowest[k];
         if number != 0 {
-            return Verdict::Breaks {
-                constraint: k as u32,
-                number,
-            };
+            let constraint = k as u32;
+            return Verdict::Breaks { constraint, number };
         }
         k += 1;
     }

@@ -1,6 +1,7 @@
 -- `faults::note` meets its contract. A fault lowers the entry.
 -- Assumes nothing.
-use Rattle.faults.proofs.Noting.{note-kept, note-lower, note-higher}
+use mathlib.Core.Logic.{⊎-elim}
+use Rattle.faults.proofs.Noting.{note-kept, note-first, note-lower, note-higher}
 use borrow.Author.Needs.{needs}
 use Rattle.faults.proofs.note.Statement.{statement}
 use Rattle.faults.proofs.note.Tie as tie
@@ -12,9 +13,8 @@ note-spec =
     (λ c. search (needs, note-kept))
     (λ c. search needs)
     (λ c. search needs)
-    (λ c κs. search needs)
     (λ c. search needs)
     (λ c. search needs)
     (λ c. search needs)
-    (λ c. search (needs, note-lower))
+    (λ c. ⊎-elim (λ w. search (needs, note-first)) (λ w. search (needs, note-lower)) (c .if2 .came))
     (λ c. search (needs, note-higher)))

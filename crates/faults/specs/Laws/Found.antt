@@ -1,23 +1,23 @@
 -- What the passes find.
-use Prim.Native.Nat.{ℕ, zero, suc, _+_, _-_, _≤_, _<_}
+use Prim.Native.Nat.{ℕ, suc, _+_, _-_, _≤_, _<_}
 use native.Mathlib.Omega.{arith}
 use mathlib.Core.Path.{_≡_, refl, sym, ap, subst, _∙_}
-use mathlib.Core.Bool.{Bool, true, false, _&&_, and-false, false≢true}
-use mathlib.Core.List.{List, [], _∷_, _++_, map, flatten, Memᴰ·map, List·Memᴰ·head as here, List·Memᴰ·tail as there, Memᴰ·append-left as left, Memᴰ·append-right as right}
+use mathlib.Core.Bool.{Bool, true, false, and-false, false≢true}
+use mathlib.Core.List.{List, [], _∷_, _++_, map, flatten}
+use mathlib.Core.List.{List·Memᴰ·head as here, List·Memᴰ·tail as there, Memᴰ·map, Memᴰ·append-left as left, Memᴰ·append-right as right}
 use lib.Dec.{eqb, lit≤}
 use lib.ListN.{length, getD}
-use borrow.Author.Tests.{ne-eqb, eqb-true, eqb-false, eq-eqb}
-use Rattle.counting.specs.Lists.{mapFrom}
+use borrow.Author.Tests.{ne-eqb, eqb-true, eq-eqb}
 use Rattle.counting.specs.Terms.{_∈_, _⊆_, Each, EachFrom}
 use Rattle.counting.specs.Laws.Index.{At, first, later, at-in, at-getD, at-below, below-at, each-from-at, of-mapFrom}
 use Rattle.counting.specs.Laws.Members.{each-nil, each-cons, each-append, in-flatten}
 use Rattle.counting.specs.Laws.Distinct.{all-fails}
 use Rattle.counting.specs.Distinct.{all, within}
-use Rattle.orm.specs.Diagram.{ObjectType, Role, Predicate, Diagram, isRoot}
+use Rattle.orm.specs.Diagram.{ObjectType, Predicate, Diagram, isRoot, index}
 use Rattle.orm.specs.Population.{Population}
 use Rattle.orm.specs.WellFormed.{WellFormed, TypeForm}
-use Rattle.orm.specs.Meaning.{Shaped}
-use Rattle.orm.specs.Constraints.{Played, played, membersOf, eachType, eachPred, K1, K2, K3, K4, K5, K6, K7, K8, K9, K10, K11, constraints}
+use Rattle.orm.specs.Meaning.{Between, Shaped}
+use Rattle.orm.specs.Constraints.{Played, played, membersOf, K1, K2, K3, K4, K5, K6, K7, K8, K9, K10, K11}
 use Rattle.faults.specs.Faults.{Fault, unless, given, faultsOf}
 use Rattle.faults.specs.Passes.{belongs, fills, limited, roleFaults, rolesFaults, subtypeFaults, memberFaults, typeFaults, predFaults, faults}
 
@@ -50,9 +50,10 @@ module _ (P : Fault → Type 0) where
   each-found of m (x ∷ xs) [] h = each-nil P
   each-found of m (x ∷ xs) (a ∷ os) h =
       each-append P _ _ (h m x a (record { place = 0; counted = omega arith; one = first refl; other = first refl }))
-      (each-found of (suc m) xs os (λ n y b at. h n y b (record { place = suc (at .place); counted = omega arith; one = later (at .one); other = later (at .other) })))
+      (each-found of (suc m) xs os
+      (λ n y b at. h n y b (record { place = suc (at .place); counted = omega arith; one = later (at .one); other = later (at .other) })))
 
-  each-flat : {A : Type 0} (of : A → List Fault) (xs : List A) → ((x : A) → x ∈ xs → Each P (of x)) → Each P (flatten (map of xs))
+  pub each-flat : {A : Type 0} (of : A → List Fault) (xs : List A) → ((x : A) → x ∈ xs → Each P (of x)) → Each P (flatten (map of xs))
   unfolding flatten
   each-flat of [] h = each-nil P
   each-flat of (x ∷ xs) h = each-append P _ _ (h x (here refl)) (each-flat of xs (λ y m. h y (there m)))
@@ -66,11 +67,6 @@ unfolding all
 all-not p (here e) q = rw (ap p (sym e) ∙ q)
 all-not p (there m) q = rw (all-not p m q, and-false)
 
--- Constraint k and the number of each of its tests, counted from m, that fails
-unfoldable pub failures : ℕ → ℕ → List Bool → List Fault
-failures k m [] = []
-failures k m (b ∷ bs) = unless b k m ++ failures k (suc m) bs
-
 -- Nothing is told of a constraint below k
 abbrev pub From : ℕ → List Fault → Type 0
 From k fs = Each (λ (f : Fault). k ≤ f .constraint) fs
@@ -80,20 +76,6 @@ pub record Exact (fs : List Fault) (k : ℕ) (gs : List Fault) : Type 0 where
   pub sound : Each (λ (f : Fault). f .constraint ≡ k → f ∈ gs) fs
   pub complete : From k fs → gs ⊆ fs
 
-type-failures : (K : ℕ → ObjectType → List ℕ → Bool) (k m : ℕ) (ts : List ObjectType) (os : List (List ℕ))
-    → failures k m (eachType K m ts os) ≡ faultsOf (λ (n : ℕ) (t : ObjectType) (vs : List ℕ). unless (K n t vs) k n) m ts os
-unfolding failures eachType faultsOf
-type-failures K k m [] os = refl
-type-failures K k m (t ∷ ts) [] = refl
-type-failures K k m (t ∷ ts) (vs ∷ os) = rw (type-failures K k (suc m) ts os)
-
-pred-failures : (K : Predicate → List (List ℕ) → Bool) (k m : ℕ) (ps : List Predicate) (os : List (List (List ℕ)))
-    → failures k m (eachPred K ps os) ≡ faultsOf (λ (n : ℕ) (p : Predicate) (rows : List (List ℕ)). unless (K p rows) k n) m ps os
-unfolding failures eachPred faultsOf
-pred-failures K k m [] os = refl
-pred-failures K k m (p ∷ ps) [] = refl
-pred-failures K k m (p ∷ ps) (rows ∷ os) = rw (pred-failures K k (suc m) ps os)
-
 in-found : {X A : Type 0} (of : ℕ → X → A → List Fault) {m n : ℕ} {xs : List X} {os : List A} {x : X} {a : A} → Numbered m xs os n x a
     → of n x a ⊆ faultsOf of m xs os
 unfolding faultsOf
@@ -102,6 +84,11 @@ in-found {X} {A} of {n = n} {x = x} {a = a} at = go _ (at .one) (at .other) (at 
     go : (m : ℕ) {xs : List X} {os : List A} {i : ℕ} → At x xs i → At a os i → m + i ≡ n → of n x a ⊆ faultsOf of m xs os
     go m (first p) (first q) e f k = let z : n ≡ m = omega arith in left _ (rw (z, p, q) at k)
     go m (later {x = y} h) (later {x = b} l) e f k = right (of m y b) (go (suc m) h l (omega arith) f k)
+
+-- What holds of each fault of a list holds of those of its parts, and what is in a part is in the list
+pub ruleset each-part = (each-append, each-unless, each-given, each-found, each-flat, lit≤)
+
+ruleset in-part = (left, right, in-found, in-unless)
 
 module _ (d : Diagram) (o : Population) where
   -- The faults of each constraint: the numbers of all types or predicates that break it
@@ -113,12 +100,9 @@ module _ (d : Diagram) (o : Population) where
       ∷ ofPreds 5 K5 ∷ ofPreds 6 K6 ∷ ofPreds 7 (K7 o) ∷ ofPreds 8 (K8 o) ∷ ofPreds 9 K9
       ∷ ofTypes 10 (K10 d o) ∷ ofPreds 11 K11 ∷ []
 
-  pub tests-broken : mapFrom (λ (k : ℕ). failures k 1) 1 (constraints d o) ≡ broken
-  unfolding constraints broken mapFrom
-  tests-broken = simp (type-failures, pred-failures)
-
-  abbrev Broken : Fault → Type 0
-  Broken f = f ∈ getD ([] ∷ broken) (f .constraint) []
+  -- The fault is of one of the constraints, and breaks it
+  abbrev pub Broken : Fault → Type 0
+  Broken f = (1 ≤ f .constraint) × (f ∈ getD broken (index (f .constraint)) [])
 
   abbrev TypeAt : ℕ → ObjectType → List ℕ → Type 0
   TypeAt = Numbered 1 (d .types) (o .types)
@@ -133,121 +117,91 @@ module _ (d : Diagram) (o : Population) where
     unfolding membersOf
     members-are i q = let z : i - 1 ≡ at .place = omega (arith, eqb-true i n q) in rw z (at-getD [] (at .other))
 
-    subtype-broken : {m : ℕ} {u : ObjectType} {vs : List ℕ} → TypeAt m u vs → Each Broken (subtypeFaults n ms m u vs)
-    unfolding broken subtypeFaults K4 isRoot
-    subtype-broken {m} {u} {vs} a = each-given _ _ λ e. each-unless _ _ λ q.
+    K4-fails : (u : ObjectType) (vs : List ℕ) → eqb (u .super) n ≡ true → within eqb vs ms ≡ false → K4 o u vs ≡ false
+    unfolding K4 isRoot
+    K4-fails u vs e q =
         let l : ¬ (u .super ≡ 0) = λ z. omega (arith, eqb-true (u .super) n e) in
-        in-found _ a _ (in-unless (K4 o u vs) (rw (K4, isRoot, ne-eqb (u .super) 0 l, members-are (u .super) e) q))
+        rw (K4, isRoot, ne-eqb (u .super) 0 l, members-are (u .super) e) q
 
-    module _ {m : ℕ} {p : Predicate} {rows : List (List ℕ)} (a : PredAt m p rows) (x : Played) (i : x ∈ played p rows) where
-      fails : (test : List ℕ → Played → Bool) → eqb (x .role .type) n ≡ true → test ms x ≡ false
-          → all (λ (y : Played). test (membersOf o (y .role .type)) y) (played p rows) ≡ false
-      fails test e q = all-not (λ (y : Played). test (membersOf o (y .role .type)) y) i (rw (members-are (x .role .type) e) q)
-
-      role-broken : Each Broken (roleFaults n ms m x)
-      unfolding broken roleFaults K7 K8 K11 belongs fills limited
-      role-broken = search (each-given, each-append, each-unless, in-found, in-unless, fails belongs, fails fills, fails (λ _. limited)) depth 9
-
-  pub from-1 : From 1 (faults d o)
-  unfolding faults typeFaults memberFaults rolesFaults roleFaults subtypeFaults predFaults
-  from-1 = search (each-append, each-unless, each-given, each-found, each-flat, lit≤) depth 18 fits 3000
+  role-fails : (test : List ℕ → Played → Bool) {n : ℕ} {t : ObjectType} {ms : List ℕ} {x : Played} {xs : List Played} → TypeAt n t ms → x ∈ xs
+      → eqb (x .role .type) n ≡ true → test ms x ≡ false → all (λ (y : Played). test (membersOf o (y .role .type)) y) xs ≡ false
+  role-fails test {x = x} at i e q = all-not (λ (y : Played). test (membersOf o (y .role .type)) y) i (rw (members-are at (x .role .type) e) q)
 
   -- Whatever is found is broken
-  found-broken : Each Broken (faults d o)
-  unfolding broken faults typeFaults memberFaults rolesFaults predFaults
-  found-broken = search (each-append, each-unless, each-given, each-found, each-flat, in-found, in-unless, subtype-broken, role-broken) depth 12 fits 2000
+  pub found-broken : Each Broken (faults d o)
+  unfolding broken faults typeFaults memberFaults rolesFaults subtypeFaults roleFaults predFaults K7 K8 K11 belongs fills limited
+  found-broken = search (each-part, in-part, K4-fails, role-fails belongs, role-fails fills, role-fails (λ _. limited)) depth 20 fits 9000
 
   -- ---- whatever is broken is found, if no lower constraint is told
 
-  kept : (j n : ℕ) (b : Bool) {k : ℕ} → From k (faults d o) → j < k → (b ≡ false → record { constraint = j; number = n } ∈ faults d o) → b ≡ true
-  kept j n true l h s = refl
-  kept j n false l h s = absurd (omega (arith, l _ (s refl)))
-
-  of-members : {k n : ℕ} {t : ObjectType} {ms : List ℕ} → From k (faults d o) → 2 < k → TypeAt n t ms → memberFaults d o n t ms ⊆ faults d o
-  unfolding faults typeFaults unless given
-  of-members {n = n} {t} {ms} l h at f m =
-      let k1 : K1 t ms ≡ true = kept 1 n _ l (omega arith) (λ q. search (left, right, in-found, in-unless) depth 7) in
-      let k2 : K2 t ms ≡ true = kept 2 n _ l h (λ q. search (left, right, in-found, in-unless) depth 7) in
-      let i : f ∈ typeFaults d o n t ms = rw (typeFaults, k1, k2) m in
-      search (left, in-found)
-
   module _ (formed : WellFormed d) (shaped : Shaped d o) where
-    -- The type with a number up to theirs, and its members
-    member-faults : {k : ℕ} {f : Fault} (i : ℕ) → 1 ≤ i → i ≤ length (d .types) → From k (faults d o) → 2 < k
-        → ((t : ObjectType) → f ∈ memberFaults d o i t (membersOf o i)) → f ∈ faults d o
-    unfolding membersOf
-    member-faults i l h from k m =
-        let (t, a) = below-at (d .types) (i - 1) (omega arith) in
-        let (ms, b) = below-at (o .types) (i - 1) (omega (arith, shaped .types)) in
-        of-members {ms = membersOf o i} from k (record { place = i - 1; counted = omega arith; one = a; other = rw (at-getD [] b) b }) _ (m t)
+    module _ {k : ℕ} (l : From k (faults d o)) where
+      -- A test of a lower constraint holds, if it is told where it fails
+      kept : (j n : ℕ) (b : Bool) → j < k → (b ≡ false → record { constraint = j; number = n } ∈ faults d o) → b ≡ true
+      kept j n true h s = refl
+      kept j n false h s = absurd (omega (arith, l _ (s refl)))
 
-    subtype-told : {n : ℕ} {t : ObjectType} {vs : List ℕ} → From 4 (faults d o) → TypeAt n t vs → K4 o t vs ≡ false
-        → record { constraint = 4; number = n } ∈ faults d o
-    unfolding K4 isRoot memberFaults subtypeFaults given unless
-    subtype-told {n} {t} {vs} l at q =
-        let some : ¬ (t .super ≡ 0) = λ z. false≢true (sym (rw (K4, isRoot, eq-eqb (t .super) 0 z) at q)) in
-        let r : within eqb vs (membersOf o (t .super)) ≡ false = rw (K4, isRoot, ne-eqb (t .super) 0 some) at q in
-        let form : TypeForm (d .types) n t = rw (at .counted) at (each-from-at (TypeForm (d .types)) 1 (formed .types) (at .one)) in
-        let i : record { constraint = 4; number = n } ∈ subtypeFaults (t .super) (membersOf o (t .super)) n t vs = rw (subtypeFaults, eq-eqb (t .super) (t .super) refl, r) (here refl) in
-        member-faults (t .super) (omega arith) (omega (arith, form .above, at-below (at .one), at .counted)) l (omega arith)
-        (λ u. search (left, right, in-found))
+      of-members : {n : ℕ} {t : ObjectType} {ms : List ℕ} → 2 < k → TypeAt n t ms → memberFaults d o n t ms ⊆ faults d o
+      unfolding faults typeFaults unless given
+      of-members {n} {t} {ms} h at f m =
+          let k1 : K1 t ms ≡ true = kept 1 n _ (omega arith) (λ q. search in-part depth 7) in
+          let k2 : K2 t ms ≡ true = kept 2 n _ h (λ q. search in-part depth 7) in
+          let i : f ∈ typeFaults d o n t ms = rw (typeFaults, k1, k2) m in
+          search in-part
 
-    module _ {k n : ℕ} {p : Predicate} {rows : List (List ℕ)} {x : Played} (l : From k (faults d o)) (at : PredAt n p rows) (i : x ∈ played p rows) where
-      role-told : {f : Fault} → 2 < k → f ∈ roleFaults (x .role .type) (membersOf o (x .role .type)) n x → f ∈ faults d o
-      unfolding played memberFaults rolesFaults
-      role-told h m =
-          let (j, r, a, e) = of-mapFrom _ 0 (p .roles) i in
-          let form = formed .preds p (at-in (at .one)) .roles (x .role) (rw (ap (λ (y : Played). y .role) e) (at-in a)) in
-          let g = in-flatten (Memᴰ·map (roleFaults (x .role .type) (membersOf o (x .role .type)) n) i) m in
-          member-faults (x .role .type) (form .player .0) (form .player .1) l h (λ u. search (left, right, in-found))
+      -- What is told of the members of the type with the number i, whatever else that type says
+      of-number : {f : Fault} (i : ℕ) → Between 1 i (length (d .types)) → 2 < k
+          → ((t : ObjectType) → f ∈ memberFaults d o i t (membersOf o i)) → f ∈ faults d o
+      unfolding membersOf
+      of-number i (from, to) h m =
+          let (t, a) = below-at (d .types) (i - 1) (omega arith) in
+          let (ms, b) = below-at (o .types) (i - 1) (omega (arith, shaped .types)) in
+          of-members {ms = membersOf o i} h (record { place = i - 1; counted = omega arith; one = a; other = rw (at-getD [] b) b }) _ (m t)
 
-      belongs-told : 2 < k → belongs (membersOf o (x .role .type)) x ≡ false → record { constraint = 7; number = n } ∈ faults d o
-      unfolding roleFaults given unless
-      belongs-told h q = role-told h (rw (roleFaults, eq-eqb (x .role .type) (x .role .type) refl, q) (here refl))
+      subtype-told : {n : ℕ} {t : ObjectType} {vs : List ℕ} → 2 < k → TypeAt n t vs → K4 o t vs ≡ false
+          → record { constraint = 4; number = n } ∈ faults d o
+      unfolding K4 isRoot memberFaults subtypeFaults given unless
+      subtype-told {n} {t} {vs} h at q =
+          let some : ¬ (t .super ≡ 0) = λ z. false≢true (sym (rw (K4, isRoot, eq-eqb (t .super) 0 z) at q)) in
+          let r : within eqb vs (membersOf o (t .super)) ≡ false = rw (K4, isRoot, ne-eqb (t .super) 0 some) at q in
+          let form : TypeForm (d .types) n t = rw (at .counted) at (each-from-at (TypeForm (d .types)) 1 (formed .types) (at .one)) in
+          let i : record { constraint = 4; number = n } ∈ subtypeFaults (t .super) (membersOf o (t .super)) n t vs =
+          rw (subtypeFaults, eq-eqb (t .super) (t .super) refl, r) (here refl) in
+          of-number (t .super) (omega arith, omega (arith, form .above, at-below (at .one), at .counted)) h (λ u. search in-part)
 
-      others-told : {f : Fault} → 7 < k → f ∈ unless (fills (membersOf o (x .role .type)) x) 8 n ++ unless (limited x) 11 n → f ∈ faults d o
-      unfolding roleFaults given unless
-      others-told h m =
-          let b : belongs (membersOf o (x .role .type)) x ≡ true = kept 7 n _ l h (belongs-told (omega arith)) in
-          role-told (omega arith) (rw (roleFaults, eq-eqb (x .role .type) (x .role .type) refl, b) m)
+      module _ {n : ℕ} {p : Predicate} {rows : List (List ℕ)} {x : Played} (at : PredAt n p rows) (i : x ∈ played p rows) where
+        role-told : {f : Fault} → 2 < k → f ∈ unless (belongs (membersOf o (x .role .type)) x) 7 n ++ given (belongs (membersOf o (x .role .type)) x)
+            (unless (fills (membersOf o (x .role .type)) x) 8 n ++ unless (limited x) 11 n) → f ∈ faults d o
+        unfolding played memberFaults rolesFaults roleFaults given
+        role-told {f} h m =
+            let (j, r, a, e) = of-mapFrom _ 0 (p .roles) i in
+            let form = formed .preds p (at-in (at .one)) .roles (x .role) (rw (ap (λ (y : Played). y .role) e) (at-in a)) in
+            let own : f ∈ roleFaults (x .role .type) (membersOf o (x .role .type)) n x = rw (roleFaults, eq-eqb (x .role .type) (x .role .type) refl) m in
+            let g = in-flatten (Memᴰ·map (roleFaults (x .role .type) (membersOf o (x .role .type)) n) i) own in
+            of-number (x .role .type) (form .player) h (λ u. search in-part)
 
-    exact : (k : ℕ) → (From k (faults d o) → getD ([] ∷ broken) k [] ⊆ faults d o) → Exact (faults d o) k (getD ([] ∷ broken) k [])
-    exact k h = record { sound = λ f m q. subst (λ (j : ℕ). f ∈ getD ([] ∷ broken) j []) q (found-broken f m); complete = h }
+        others-told : {f : Fault} → 7 < k → f ∈ unless (fills (membersOf o (x .role .type)) x) 8 n ++ unless (limited x) 11 n → f ∈ faults d o
+        unfolding given unless
+        others-told h m =
+            let b : belongs (membersOf o (x .role .type)) x ≡ true = kept 7 n _ h (λ q. role-told (omega arith) (search in-part)) in
+            role-told (omega arith) (rw b m)
+
+    exact : {R : Type 0} (k : ℕ) → (From k (faults d o) → getD broken (index k) [] ⊆ faults d o) → R → Exact (faults d o) k (getD broken (index k) []) × R
+    exact k h r = (record { sound = λ f m q. subst (λ (j : ℕ). f ∈ getD broken (index j) []) q (found-broken f m .1); complete = h }, r)
 
     -- Each constraint is told exactly
     pub told-exactly : EachFrom (Exact (faults d o)) 1 broken
     unfolding broken faults typeFaults memberFaults predFaults K7 K8 K11 belongs fills limited
-    told-exactly = (
-      exact 1 (λ l. each-found _ _ _ _ _ (search (left, right, in-found) depth 7)),
-      (
-        exact 2 (λ l. each-found _ _ _ _ _ (search (left, right, in-found) depth 7)),
-        (
-          exact 3 (λ l. each-found _ _ _ _ _ λ n t ms at f m. of-members l (omega arith) at f (search (left, right))),
-          (
-            exact 4 (λ l. each-found _ _ _ _ _ λ n t ms at. each-unless _ _ (subtype-told l at)),
-            (
-              exact 5 (λ l. each-found _ _ _ _ _ (search (left, right, in-found) depth 7)),
-              (
-                exact 6 (λ l. each-found _ _ _ _ _ (search (left, right, in-found) depth 7)),
-                (
-                  exact 7 (λ l. each-found _ _ _ _ _ λ n p rows at. each-all _ _ _ λ x i. belongs-told l at i (omega arith)),
-                  (
-                    exact 8 (λ l. each-found _ _ _ _ _ λ n p rows at. each-all _ _ _ λ x i r. others-told l at i (omega arith) (search (left, right, in-unless))),
-                    (
-                      exact 9 (λ l. each-found _ _ _ _ _ (search (left, right, in-found) depth 7)),
-                      (
-                        exact 10 (λ l. each-found _ _ _ _ _ λ n t ms at f m. of-members l (omega arith) at f (search (left, right))),
-                        (
-                          exact 11 (λ l. each-found _ _ _ _ _ λ n p rows at. each-all _ _ _ λ x i r. others-told l at i (omega arith) (search (left, right, in-unless))),
-                          tt,
-                        ),
-                      ),
-                    ),
-                  ),
-                ),
-              ),
-            ),
-          ),
-        ),
-      ),
-    )
+    told-exactly =
+        exact 1 (λ l. each-found _ _ _ _ _ (search in-part depth 7))
+        (exact 2 (λ l. each-found _ _ _ _ _ (search in-part depth 7))
+        (exact 3 (λ l. each-found _ _ _ _ _ λ n t ms at f m. of-members l (omega arith) at f (search in-part))
+        (exact 4 (λ l. each-found _ _ _ _ _ λ n t ms at. each-unless _ _ (subtype-told l (omega arith) at))
+        (exact 5 (λ l. each-found _ _ _ _ _ (search in-part depth 7))
+        (exact 6 (λ l. each-found _ _ _ _ _ (search in-part depth 7))
+        (exact 7 (λ l. each-found _ _ _ _ _ λ n p rows at. each-all _ _ _ λ x i r. role-told l at i (omega arith) (search in-part))
+        (exact 8 (λ l. each-found _ _ _ _ _ λ n p rows at. each-all _ _ _ λ x i r. others-told l at i (omega arith) (search in-part))
+        (exact 9 (λ l. each-found _ _ _ _ _ (search in-part depth 7))
+        (exact 10 (λ l. each-found _ _ _ _ _ λ n t ms at f m. of-members l (omega arith) at f (search in-part))
+        (exact 11 (λ l. each-found _ _ _ _ _ λ n p rows at. each-all _ _ _ λ x i r. others-told l at i (omega arith) (search in-part))
+        tt))))))))))

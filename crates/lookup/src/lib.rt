@@ -4,7 +4,7 @@
 // and how many in the last one.
 use columns::Column;
 ghost use mathlib.Core.Path.{_≡_};
-ghost use Prim.Native.Nat.{_<_};
+ghost use Prim.Native.Nat.{_+_, _≤_, _<_};
 ghost use lib.Dec.{eqb};
 ghost use lib.ListN.{length, replicate};
 ghost use Rattle.counting.specs.Distinct.{all, within};
@@ -12,10 +12,9 @@ ghost use Rattle.sorting.specs.Rising.{Rising};
 ghost use Rattle.columns.specs.Values.{valuesIn};
 ghost use Rattle.columns.specs.Reach.{Reached};
 ghost use Rattle.lookup.specs.Stamps.{isSet, Marked};
-ghost use Rattle.lookup.specs.Looked.{Looked};
-ghost use Rattle.lookup.specs.Counts.{Fresh, Meets};
+ghost use Rattle.lookup.specs.Counts.{Fresh, Next, Looked};
 
-// Whether all values were members, and how many members they met that had another stamp.
+// Whether all values are members, and how many members are met.
 pub struct Met {
     pub all: bool,
     pub count: usize,
@@ -42,8 +41,9 @@ pub fn within(cells: &[u32], values: Column, list: &[u32]) -> bool
 // x is looked up, and met where it is a member.
 fn meet_value(list: &[u32], x: u32, marks: &mut [u32], stamp: u32, met: Met) -> Met
     requires { ⌜ Marked (now list) (now marks) ⌝ }
-    requires { ⌜ met .count < 4611686018427387904 ⌝ }
-    ensures { λ r. ⌜ Looked (now (list .entry)) stamp x (now (marks .entry)) met (now (marks .exit)) r ⌝ }
+    requires { ⌜ met .count < 18446744073709551615 ⌝ }
+    ensures { λ r. ⌜ Next (now (list .entry)) stamp x (now (marks .entry)) met (now (marks .exit)) r ⌝ }
+    ensures { λ r. ⌜ r .count ≤ met .count + 1 ⌝ }
 {
     let i = order::place(list, x);
     if marks.len() <= i {
@@ -62,22 +62,21 @@ fn meet_value(list: &[u32], x: u32, marks: &mut [u32], stamp: u32, met: Met) -> 
     }
 }
 
-// The values of the column are looked up, and the members among them met.
+// The values of the column are looked up, from the last to the first, and the members among them met.
 pub fn meet(cells: &[u32], values: Column, list: &[u32], marks: &mut [u32], stamp: u32) -> Met
     requires { ⌜ Reached (now cells) values ⌝ }
     requires { ⌜ Fresh (now list) (now marks) stamp ⌝ }
-    ensures { λ r. ⌜ Meets (now (list .entry)) (valuesIn (now (cells .entry)) values) (now (marks .entry)) stamp (now (marks .exit)) r ⌝ }
+    ensures { λ r. ⌜ Looked (now (list .entry)) (now (marks .entry)) stamp (valuesIn (now (cells .entry)) values) (now (marks .exit)) r ⌝ }
 {
-    let mut at = values.start;
     let mut left = values.count;
     let mut met = Met {
         all: true,
         count: 0,
     };
     while 0 < left {
-        met = meet_value(list, columns::value_at(cells, at), marks, stamp, met);
-        at += values.step;
         left -= 1;
+        let x = columns::value_at(cells, values.start + left * values.step);
+        met = meet_value(list, x, marks, stamp, met);
     }
     met
 }

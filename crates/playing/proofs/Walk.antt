@@ -20,13 +20,12 @@ use Rattle.table.specs.Positions.{wideRole, predLength, predsIn, roleWidth, rol
 use Rattle.table.specs.Laws.Walks.{role-more, role-none, roles-here, preds-more, preds-none}
 use Rattle.lookup.specs.declared.Met.{Met}
 use Rattle.lookup.specs.Stamps.{allMet, met-end}
-use Rattle.lookup.specs.Counts.{Fresh, Meets, fresh-later}
-use Rattle.blocks.specs.Blocks.{blockLength, contents, predWidth, rowsAt, rowsIn, populationAt}
+use Rattle.lookup.specs.Counts.{Fresh, Looked, Meets, meets, fresh-later}
+use Rattle.blocks.specs.Blocks.{contents, predWidth, rowsAt, rowsIn, populationAt}
 use Rattle.blocks.specs.Starts.{Located, starts-preds}
 use Rattle.blocks.specs.Standing.{PredHere, Standing, standing-next}
 use Rattle.playing.specs.Places.{populationOf, predAt, rowsHere}
-use Rattle.playing.specs.Left.{playedAs, toldBy, Left, Heard}
-use Rattle.playing.specs.Found.{Found}
+use Rattle.playing.specs.Found.{playedAs, toldBy, Left, Heard, Found}
 
 -- ---- one role
 
@@ -62,14 +61,17 @@ module _ (x : Played) (number own k : ℕ) (ws ms e : List ℕ) {v : ℕ} (q : v
       let z : eqb (x .role .type) number ≡ false = rw (← q) (ne-eqb v number n) in
       heard ms e (rw (roleFaults, z)) (λ us. rw (valuesInRoles, z)) (fresh-later (k + 1) f (omega arith))
 
-  pub role-own : (met : Met) {ms′ e′ : List ℕ} → Meets ws (x .values) ms k ms′ met → v ≡ number → e′ ≡ lowered (toldBy (x .role) met (length ws) own) e
+  pub role-own : (met : Met) {ms′ e′ : List ℕ} → Fresh ws ms k → Looked ws ms k (x .values) ms′ met → v ≡ number → e′ ≡ lowered (toldBy (x .role) met (length ws) own) e
       → Heard number ws own (x ∷ []) ms e ms′ e′ (k + 1)
   unfolding roleFaults valuesInRoles given belongs limited fills toldBy
-  role-own met {ms′} {e′} m p n =
+  role-own met {ms′} {e′} f l p n =
       let z : eqb (x .role .type) number ≡ true = rw (← q) (eq-eqb v number p) in
       heard ms′ e′ (rw (roleFaults, z, ← only-if (belongs ws x) refl, ← m .all) n)
       (λ us. rw (valuesInRoles, z, append-nil (x .values)) (m .marks us)) (m .fresh)
     where
+      m : Meets ws (x .values) ms k ms′ met
+      m = meets f l
+
       filled : (b : Bool) → not (b && not (within eqb ws (x .values))) ≡ elim b [ true ↦ within eqb ws (x .values) | false ↦ true ]
       filled true = Bool·not-not (within eqb ws (x .values))
       filled false = refl
@@ -78,7 +80,7 @@ module _ (x : Played) (number own k : ℕ) (ws ms e : List ℕ) {v : ℕ} (q : v
           → given b (unless (not (isMandatory (x .role) && not (eqb (met .count) (length ws)))) 8 own
           ++ unless (inRange (x .role .rmin to x .role .rmax) (met .count)) 11 own)
           ≡ given b (unless (fills ws x) 8 own ++ unless (limited x) 11 own)
-      only-if true h = rw (m .fills, filled (isMandatory (x .role)), m .differs h, limited)
+      only-if true h = rw (m .fills h, filled (isMandatory (x .role)), m .differs h, limited)
       only-if false h = refl
 
 -- ---- one after another
@@ -159,7 +161,7 @@ module _ (t s : List ℕ) (number own pred at : ℕ) (ws ms₀ e₀ : List ℕ) 
 -- ---- all predicates
 
 module _ (t s starts : List ℕ) (number : ℕ) (ws ms₀ e₀ : List ℕ) where
-  -- `left` predicates are left from `pred` of the table on, the first of them with the number `own` and its block at start k
+  -- n predicates are left from `pred` of the table on, the first of them with the number `own` and its block at start k
   pub record PredsLeft (ms e : List ℕ) (pred k own n : ℕ) : Type 0 where
     pub left :
         let ps = predsIn n (drop pred t) in
@@ -193,4 +195,4 @@ module _ (t s starts : List ℕ) (number : ℕ) (ws ms₀ e₀ : List ℕ) where
     unfolding faultsOf contents flatten zipWith valuesInRoles lowered
     preds-end h =
         let all = rw (preds-none left (drop pred t) h) at (i .left) in
-        record { faults = all .faults; met = sym (met-end ws ms) ∙ all .met [] ∙ ap (allMet ws ms₀) (append-nil _) }
+        record { faults = all .faults; met = sym (met-end ws ms (all .fresh .marked .long)) ∙ all .met [] ∙ ap (allMet ws ms₀) (append-nil _) }

@@ -14,8 +14,7 @@ ghost use Rattle.lookup.specs.Counts.{Fresh};
 ghost use Rattle.blocks.specs.Standing.{PredHere};
 ghost use Rattle.blocks.specs.Starts.{Populated, Located};
 ghost use Rattle.playing.specs.Places.{predAt, rowsHere};
-ghost use Rattle.playing.specs.Left.{playedAs, toldBy, Heard};
-ghost use Rattle.playing.specs.Found.{Found};
+ghost use Rattle.playing.specs.Found.{playedAs, toldBy, Heard, Found};
 
 // K7, K8 and K11 of the role at `role`, by what was met of a type with `size` members.
 fn note_role(t: &[u32], role: usize, met: Met, size: usize, own: u32, lowest: &mut [u32])
@@ -37,35 +36,41 @@ fn note_role(t: &[u32], role: usize, met: Met, size: usize, own: u32, lowest: &m
     faults::note(limited, 11, own, lowest);
 }
 
-// The role at `role`, with the values in its column, of the predicate with the number `own`, if the type with this number plays it.
+// The role at `role` of the table, the number of its predicate, and the stamp for the members in it.
+struct Turn {
+    role: usize,
+    own: u32,
+    stamp: u32,
+}
+
+// A role, with the values in its column, if the type with this number plays it.
 fn role_pass(
     t: &[u32],
     cells: &[u32],
     number: u32,
-    own: u32,
-    role: usize,
+    turn: Turn,
     values: Column,
-    stamp: u32,
     list: &[u32],
     marks: &mut [u32],
     lowest: &mut [u32],
 )
     requires { ⌜ Walkable (now t) ⌝ }
     requires { ⌜ Reached (now cells) values ⌝ }
-    requires { ⌜ Fresh (now list) (now marks) stamp ⌝ }
+    requires { ⌜ Fresh (now list) (now marks) (turn .stamp) ⌝ }
     requires { ⌜ length (now lowest) ≡ 12 ⌝ }
     ensures { λ _.
-        ⌜ Heard number (now (list .entry)) own (playedAs (wideRole (drop role (now (t .entry)))) (valuesIn (now (cells .entry)) values) ∷ [])
-        (now (marks .entry)) (now (lowest .entry)) (now (marks .exit)) (now (lowest .exit)) (stamp + 1) ⌝ }
+        ⌜ Heard number (now (list .entry)) (turn .own) (playedAs (wideRole (drop (turn .role) (now (t .entry)))) (valuesIn (now (cells .entry)) values) ∷ [])
+        (now (marks .entry)) (now (lowest .entry)) (now (marks .exit)) (now (lowest .exit)) (turn .stamp + 1) ⌝ }
 {
-    if table::field(t, role, 0) != number {
+    if table::field(t, turn.role, 0) != number {
         return;
     }
-    let met = lookup::meet(cells, values, list, marks, stamp);
-    note_role(t, role, met, list.len(), own, lowest);
+    let met = lookup::meet(cells, values, list, marks, turn.stamp);
+    note_role(t, turn.role, met, list.len(), turn.own, lowest);
 }
 
-// The roles of the predicate at `pred`, with the number `own` and its block at `at`, that the type with this number plays.
+// The roles of the predicate at `pred`, with the number `own` and its block at `at`, that the type with this number plays. A predicate
+// has at most 6 roles, so that 8 stamps are enough for each.
 fn roles_pass(
     t: &[u32],
     cells: &[u32],
@@ -91,18 +96,9 @@ fn roles_pass(
     let mut stamp = 8 * own;
     let mut j: usize = 0;
     while j < w {
-        role_pass(
-            t,
-            cells,
-            number,
-            own,
-            role,
-            blocks::column(cells, at, w, j),
-            stamp,
-            list,
-            marks,
-            lowest,
-        );
+        let values = blocks::column(cells, at, w, j);
+        let turn = Turn { role, own, stamp };
+        role_pass(t, cells, number, turn, values, list, marks, lowest);
         role += table::ROLE_WIDTH;
         stamp += 1;
         j += 1;

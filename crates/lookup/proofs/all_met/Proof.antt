@@ -1,9 +1,8 @@
 -- `lookup::all_met` meets its contract. The test of the marks left comes to the whole test.
 -- Assumes nothing.
-use mathlib.Core.Path.{_≡_}
-use lib.ListN.{length, drop}
+use lib.ListN.{length}
 use Prim.Native.Nat.{_-_}
-use Rattle.lookup.proofs.Walked.{MetLeft, met-not, met-more, met-none}
+use Rattle.lookup.proofs.Walks.{MetLeft, met-not, met-more, met-none}
 use borrow.Author.Needs.{needs}
 use Rattle.lookup.proofs.all_met.Statement.{statement}
 use Rattle.lookup.proofs.all_met.Tie as tie

@@ -4,7 +4,7 @@ use Prim.Native.Nat.{_+_, _*_}
 use mathlib.Core.Path.{_≡_}
 use Rattle.columns.specs.Walks.{next-here}
 use Rattle.columns.specs.Reach.{endOfColumn, left-reached, left-after}
-use Rattle.lookup.proofs.Walked.{WithinLeft, within-not, within-more, within-none}
+use Rattle.lookup.proofs.Walks.{WithinLeft, within-not, within-more, within-none}
 use borrow.Author.Needs.{needs}
 use Rattle.lookup.proofs.within.Statement.{statement}
 use Rattle.lookup.proofs.within.Tie as tie

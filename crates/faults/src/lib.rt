@@ -3,7 +3,7 @@
 // specs/Passes, the law that this is document 01's answer in specs/Laws/Answered.
 ghost use mathlib.Core.Path.{_≡_};
 ghost use mathlib.Core.Bool.{_&&_};
-ghost use Prim.Native.Nat.{_+_, _<_};
+ghost use Prim.Native.Nat.{_<_};
 ghost use lib.ListN.{length};
 ghost use Rattle.faults.specs.Faults.{unless, lowered, noEntries, firstEntry, answerOf};
 

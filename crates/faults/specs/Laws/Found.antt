@@ -1,10 +1,11 @@
--- What the passes find.
+-- What the passes find is just what breaks a constraint, as far as nothing is found of a lower one.
 use Prim.Native.Nat.{ℕ, suc, _+_, _-_, _≤_, _<_}
 use native.Mathlib.Omega.{arith}
 use mathlib.Core.Path.{_≡_, refl, sym, ap, subst, _∙_}
 use mathlib.Core.Bool.{Bool, true, false, and-false, false≢true}
 use mathlib.Core.List.{List, [], _∷_, _++_, map, flatten}
 use mathlib.Core.List.{List·Memᴰ·head as here, List·Memᴰ·tail as there, Memᴰ·map, Memᴰ·append-left as left, Memᴰ·append-right as right}
+use native.Mathlib.Nat.{add-zero, suc-add, add-suc}
 use lib.Dec.{eqb, lit≤}
 use lib.ListN.{length, getD}
 use borrow.Author.Tests.{ne-eqb, eqb-true, eq-eqb}
@@ -21,17 +22,6 @@ use Rattle.orm.specs.Constraints.{Played, played, membersOf, K1, K2, K3, K4, K5
 use Rattle.faults.specs.Faults.{Fault, unless, given, faultsOf}
 use Rattle.faults.specs.Passes.{belongs, fills, limited, roleFaults, rolesFaults, subtypeFaults, memberFaults, typeFaults, predFaults, faults}
 
--- x and a stand at the same place of two lists, and n is its number, counted from m
-pub record Numbered {X A : Type 0} (m : ℕ) (xs : List X) (os : List A) (n : ℕ) (x : X) (a : A) : Type 0 where
-  pub place : ℕ
-  pub counted : m + place ≡ n
-  pub one : At x xs place
-  pub other : At a os place
-
-in-unless : (b : Bool) {k n : ℕ} → b ≡ false → record { constraint = k; number = n } ∈ unless b k n
-unfolding unless
-in-unless b e = rw e (here refl)
-
 module _ (P : Fault → Type 0) where
   pub each-unless : (b : Bool) {k n : ℕ} → (b ≡ false → P (record { constraint = k; number = n })) → Each P (unless b k n)
   unfolding unless
@@ -44,14 +34,13 @@ module _ (P : Fault → Type 0) where
   each-given false h = each-nil P
 
   pub each-found : {X A : Type 0} (of : ℕ → X → A → List Fault) (m : ℕ) (xs : List X) (os : List A)
-      → ((n : ℕ) (x : X) (a : A) → Numbered m xs os n x a → Each P (of n x a)) → Each P (faultsOf of m xs os)
+      → ((i : ℕ) (x : X) (a : A) → At x xs i → At a os i → Each P (of (m + i) x a)) → Each P (faultsOf of m xs os)
   unfolding faultsOf
   each-found of m [] os h = each-nil P
   each-found of m (x ∷ xs) [] h = each-nil P
   each-found of m (x ∷ xs) (a ∷ os) h =
-      each-append P _ _ (h m x a (record { place = 0; counted = omega arith; one = first refl; other = first refl }))
-      (each-found of (suc m) xs os
-      (λ n y b at. h n y b (record { place = suc (at .place); counted = omega arith; one = later (at .one); other = later (at .other) })))
+      each-append P _ _ (rw add-zero at (h 0 x a (first refl) (first refl)))
+      (each-found of (suc m) xs os (λ i y b p q. rw (suc-add, ← add-suc) (h (suc i) y b (later p) (later q))))
 
   pub each-flat : {A : Type 0} (of : A → List Fault) (xs : List A) → ((x : A) → x ∈ xs → Each P (of x)) → Each P (flatten (map of xs))
   unfolding flatten
@@ -61,6 +50,22 @@ module _ (P : Fault → Type 0) where
   each-all : {A : Type 0} (test : A → Bool) (xs : List A) {k n : ℕ} → ((x : A) → x ∈ xs → test x ≡ false → P (record { constraint = k; number = n }))
       → Each P (unless (all test xs) k n)
   each-all test xs h = each-unless (all test xs) (λ q. let (x, i, r) = all-fails test xs q in h x i r)
+
+-- What holds of each fault of the parts holds of each of the whole
+pub ruleset each-part = (each-append, each-unless, each-given, each-found, each-flat, lit≤)
+
+in-unless : (b : Bool) {k n : ℕ} → b ≡ false → record { constraint = k; number = n } ∈ unless b k n
+unfolding unless
+in-unless b e = rw e (here refl)
+
+in-found : {X A : Type 0} (of : ℕ → X → A → List Fault) (m : ℕ) {i : ℕ} {xs : List X} {os : List A} {x : X} {a : A} → At x xs i → At a os i
+    → of (m + i) x a ⊆ faultsOf of m xs os
+unfolding faultsOf
+in-found of m (first p) (first q) f k = left _ (rw (add-zero, p, q) at k)
+in-found of m (later {x = y} p) (later {x = b} q) f k = right (of m y b) (in-found of (suc m) p q f (rw (add-suc, ← suc-add) at k))
+
+-- What is in a part is in the whole
+ruleset in-part = (left, right, in-found, in-unless)
 
 all-not : {A : Type 0} (p : A → Bool) {x : A} {xs : List A} → x ∈ xs → p x ≡ false → all p xs ≡ false
 unfolding all
@@ -76,20 +81,6 @@ pub record Exact (fs : List Fault) (k : ℕ) (gs : List Fault) : Type 0 where
   pub sound : Each (λ (f : Fault). f .constraint ≡ k → f ∈ gs) fs
   pub complete : From k fs → gs ⊆ fs
 
-in-found : {X A : Type 0} (of : ℕ → X → A → List Fault) {m n : ℕ} {xs : List X} {os : List A} {x : X} {a : A} → Numbered m xs os n x a
-    → of n x a ⊆ faultsOf of m xs os
-unfolding faultsOf
-in-found {X} {A} of {n = n} {x = x} {a = a} at = go _ (at .one) (at .other) (at .counted)
-  where
-    go : (m : ℕ) {xs : List X} {os : List A} {i : ℕ} → At x xs i → At a os i → m + i ≡ n → of n x a ⊆ faultsOf of m xs os
-    go m (first p) (first q) e f k = let z : n ≡ m = omega arith in left _ (rw (z, p, q) at k)
-    go m (later {x = y} h) (later {x = b} l) e f k = right (of m y b) (go (suc m) h l (omega arith) f k)
-
--- What holds of each fault of a list holds of those of its parts, and what is in a part is in the list
-pub ruleset each-part = (each-append, each-unless, each-given, each-found, each-flat, lit≤)
-
-ruleset in-part = (left, right, in-found, in-unless)
-
 module _ (d : Diagram) (o : Population) where
   -- The faults of each constraint: the numbers of all types or predicates that break it
   unfoldable pub broken : List (List Fault)
@@ -104,28 +95,22 @@ module _ (d : Diagram) (o : Population) where
   abbrev pub Broken : Fault → Type 0
   Broken f = (1 ≤ f .constraint) × (f ∈ getD broken (index (f .constraint)) [])
 
-  abbrev TypeAt : ℕ → ObjectType → List ℕ → Type 0
-  TypeAt = Numbered 1 (d .types) (o .types)
-
-  abbrev PredAt : ℕ → Predicate → List (List ℕ) → Type 0
-  PredAt = Numbered 1 (d .preds) (o .preds)
-
   -- ---- whatever is found is broken
 
-  module _ {n : ℕ} {t : ObjectType} {ms : List ℕ} (at : TypeAt n t ms) where
-    members-are : (i : ℕ) → eqb i n ≡ true → membersOf o i ≡ ms
+  module _ {i : ℕ} {ms : List ℕ} (at : At ms (o .types) i) where
+    members-are : (j : ℕ) → eqb j (1 + i) ≡ true → membersOf o j ≡ ms
     unfolding membersOf
-    members-are i q = let z : i - 1 ≡ at .place = omega (arith, eqb-true i n q) in rw z (at-getD [] (at .other))
+    members-are j q = let z : j - 1 ≡ i = omega (arith, eqb-true j (1 + i) q) in rw z (at-getD [] at)
 
-    K4-fails : (u : ObjectType) (vs : List ℕ) → eqb (u .super) n ≡ true → within eqb vs ms ≡ false → K4 o u vs ≡ false
+    K4-fails : (u : ObjectType) (vs : List ℕ) → eqb (u .super) (1 + i) ≡ true → within eqb vs ms ≡ false → K4 o u vs ≡ false
     unfolding K4 isRoot
     K4-fails u vs e q =
-        let l : ¬ (u .super ≡ 0) = λ z. omega (arith, eqb-true (u .super) n e) in
+        let l : ¬ (u .super ≡ 0) = λ z. omega (arith, eqb-true (u .super) (1 + i) e) in
         rw (K4, isRoot, ne-eqb (u .super) 0 l, members-are (u .super) e) q
 
-  role-fails : (test : List ℕ → Played → Bool) {n : ℕ} {t : ObjectType} {ms : List ℕ} {x : Played} {xs : List Played} → TypeAt n t ms → x ∈ xs
-      → eqb (x .role .type) n ≡ true → test ms x ≡ false → all (λ (y : Played). test (membersOf o (y .role .type)) y) xs ≡ false
-  role-fails test {x = x} at i e q = all-not (λ (y : Played). test (membersOf o (y .role .type)) y) i (rw (members-are at (x .role .type) e) q)
+  role-fails : (test : List ℕ → Played → Bool) {i : ℕ} {ms : List ℕ} {x : Played} {xs : List Played} → At ms (o .types) i → x ∈ xs
+      → eqb (x .role .type) (1 + i) ≡ true → test ms x ≡ false → all (λ (y : Played). test (membersOf o (y .role .type)) y) xs ≡ false
+  role-fails test {x = x} at m e q = all-not (λ (y : Played). test (membersOf o (y .role .type)) y) m (rw (members-are at (x .role .type) e) q)
 
   -- Whatever is found is broken
   pub found-broken : Each Broken (faults d o)
@@ -141,49 +126,51 @@ module _ (d : Diagram) (o : Population) where
       kept j n true h s = refl
       kept j n false h s = absurd (omega (arith, l _ (s refl)))
 
-      of-members : {n : ℕ} {t : ObjectType} {ms : List ℕ} → 2 < k → TypeAt n t ms → memberFaults d o n t ms ⊆ faults d o
+      of-members : {i : ℕ} {t : ObjectType} {ms : List ℕ} → 2 < k → At t (d .types) i → At ms (o .types) i → memberFaults d o (1 + i) t ms ⊆ faults d o
       unfolding faults typeFaults unless given
-      of-members {n} {t} {ms} h at f m =
-          let k1 : K1 t ms ≡ true = kept 1 n _ (omega arith) (λ q. search in-part depth 7) in
-          let k2 : K2 t ms ≡ true = kept 2 n _ h (λ q. search in-part depth 7) in
-          let i : f ∈ typeFaults d o n t ms = rw (typeFaults, k1, k2) m in
+      of-members {i} {t} {ms} h at members f m =
+          let k1 : K1 t ms ≡ true = kept 1 (1 + i) _ (omega arith) (λ q. search in-part depth 7) in
+          let k2 : K2 t ms ≡ true = kept 2 (1 + i) _ h (λ q. search in-part depth 7) in
+          let g : f ∈ typeFaults d o (1 + i) t ms = rw (typeFaults, k1, k2) m in
           search in-part
 
-      -- What is told of the members of the type with the number i, whatever else that type says
-      of-number : {f : Fault} (i : ℕ) → Between 1 i (length (d .types)) → 2 < k
-          → ((t : ObjectType) → f ∈ memberFaults d o i t (membersOf o i)) → f ∈ faults d o
+      -- What is told of the members of the type with the number n, whatever else that type says
+      of-number : {f : Fault} (n : ℕ) → Between 1 n (length (d .types)) → 2 < k
+          → ((t : ObjectType) → f ∈ memberFaults d o n t (membersOf o n)) → f ∈ faults d o
       unfolding membersOf
-      of-number i (from, to) h m =
-          let (t, a) = below-at (d .types) (i - 1) (omega arith) in
-          let (ms, b) = below-at (o .types) (i - 1) (omega (arith, shaped .types)) in
-          of-members {ms = membersOf o i} h (record { place = i - 1; counted = omega arith; one = a; other = rw (at-getD [] b) b }) _ (m t)
+      of-number n (from, to) h m =
+          let (t, a) = below-at (d .types) (n - 1) (omega arith) in
+          let (ms, b) = below-at (o .types) (n - 1) (omega (arith, shaped .types)) in
+          let z : 1 + (n - 1) ≡ n = omega arith in
+          of-members h a b _ (rw (z, ← at-getD [] b) (m t))
 
-      subtype-told : {n : ℕ} {t : ObjectType} {vs : List ℕ} → 2 < k → TypeAt n t vs → K4 o t vs ≡ false
-          → record { constraint = 4; number = n } ∈ faults d o
+      subtype-told : {i : ℕ} {t : ObjectType} {vs : List ℕ} → 2 < k → At t (d .types) i → At vs (o .types) i → K4 o t vs ≡ false
+          → record { constraint = 4; number = 1 + i } ∈ faults d o
       unfolding K4 isRoot memberFaults subtypeFaults given unless
-      subtype-told {n} {t} {vs} h at q =
+      subtype-told {i} {t} {vs} h at members q =
           let some : ¬ (t .super ≡ 0) = λ z. false≢true (sym (rw (K4, isRoot, eq-eqb (t .super) 0 z) at q)) in
           let r : within eqb vs (membersOf o (t .super)) ≡ false = rw (K4, isRoot, ne-eqb (t .super) 0 some) at q in
-          let form : TypeForm (d .types) n t = rw (at .counted) at (each-from-at (TypeForm (d .types)) 1 (formed .types) (at .one)) in
-          let i : record { constraint = 4; number = n } ∈ subtypeFaults (t .super) (membersOf o (t .super)) n t vs =
+          let form = each-from-at (TypeForm (d .types)) 1 (formed .types) at in
+          let g : record { constraint = 4; number = 1 + i } ∈ subtypeFaults (t .super) (membersOf o (t .super)) (1 + i) t vs =
           rw (subtypeFaults, eq-eqb (t .super) (t .super) refl, r) (here refl) in
-          of-number (t .super) (omega arith, omega (arith, form .above, at-below (at .one), at .counted)) h (λ u. search in-part)
+          of-number (t .super) (omega arith, omega (arith, form .above, at-below at)) h (λ u. search in-part)
 
-      module _ {n : ℕ} {p : Predicate} {rows : List (List ℕ)} {x : Played} (at : PredAt n p rows) (i : x ∈ played p rows) where
-        role-told : {f : Fault} → 2 < k → f ∈ unless (belongs (membersOf o (x .role .type)) x) 7 n ++ given (belongs (membersOf o (x .role .type)) x)
-            (unless (fills (membersOf o (x .role .type)) x) 8 n ++ unless (limited x) 11 n) → f ∈ faults d o
+      module _ {i : ℕ} {p : Predicate} {rows : List (List ℕ)} {x : Played} (at : At p (d .preds) i) (b : At rows (o .preds) i) (role : x ∈ played p rows) where
+        role-told : {f : Fault} → 2 < k → f ∈ unless (belongs (membersOf o (x .role .type)) x) 7 (1 + i) ++ given (belongs (membersOf o (x .role .type)) x)
+            (unless (fills (membersOf o (x .role .type)) x) 8 (1 + i) ++ unless (limited x) 11 (1 + i)) → f ∈ faults d o
         unfolding played memberFaults rolesFaults roleFaults given
         role-told {f} h m =
-            let (j, r, a, e) = of-mapFrom _ 0 (p .roles) i in
-            let form = formed .preds p (at-in (at .one)) .roles (x .role) (rw (ap (λ (y : Played). y .role) e) (at-in a)) in
-            let own : f ∈ roleFaults (x .role .type) (membersOf o (x .role .type)) n x = rw (roleFaults, eq-eqb (x .role .type) (x .role .type) refl) m in
-            let g = in-flatten (Memᴰ·map (roleFaults (x .role .type) (membersOf o (x .role .type)) n) i) own in
+            let (j, r, a, e) = of-mapFrom _ 0 (p .roles) role in
+            let form = formed .preds p (at-in at) .roles (x .role) (rw (ap (λ (y : Played). y .role) e) (at-in a)) in
+            let own : f ∈ roleFaults (x .role .type) (membersOf o (x .role .type)) (1 + i) x =
+            rw (roleFaults, eq-eqb (x .role .type) (x .role .type) refl) m in
+            let g = in-flatten (Memᴰ·map (roleFaults (x .role .type) (membersOf o (x .role .type)) (1 + i)) role) own in
             of-number (x .role .type) (form .player) h (λ u. search in-part)
 
-        others-told : {f : Fault} → 7 < k → f ∈ unless (fills (membersOf o (x .role .type)) x) 8 n ++ unless (limited x) 11 n → f ∈ faults d o
+        others-told : {f : Fault} → 7 < k → f ∈ unless (fills (membersOf o (x .role .type)) x) 8 (1 + i) ++ unless (limited x) 11 (1 + i) → f ∈ faults d o
         unfolding given unless
         others-told h m =
-            let b : belongs (membersOf o (x .role .type)) x ≡ true = kept 7 n _ h (λ q. role-told (omega arith) (search in-part)) in
+            let b : belongs (membersOf o (x .role .type)) x ≡ true = kept 7 (1 + i) _ h (λ q. role-told (omega arith) (search in-part)) in
             role-told (omega arith) (rw b m)
 
     exact : {R : Type 0} (k : ℕ) → (From k (faults d o) → getD broken (index k) [] ⊆ faults d o) → R → Exact (faults d o) k (getD broken (index k) []) × R
@@ -195,13 +182,13 @@ module _ (d : Diagram) (o : Population) where
     told-exactly =
         exact 1 (λ l. each-found _ _ _ _ _ (search in-part depth 7))
         (exact 2 (λ l. each-found _ _ _ _ _ (search in-part depth 7))
-        (exact 3 (λ l. each-found _ _ _ _ _ λ n t ms at f m. of-members l (omega arith) at f (search in-part))
-        (exact 4 (λ l. each-found _ _ _ _ _ λ n t ms at. each-unless _ _ (subtype-told l (omega arith) at))
+        (exact 3 (λ l. each-found _ _ _ _ _ λ i t ms p q f m. of-members l (omega arith) p q f (search in-part))
+        (exact 4 (λ l. each-found _ _ _ _ _ λ i t ms p q. each-unless _ _ (subtype-told l (omega arith) p q))
         (exact 5 (λ l. each-found _ _ _ _ _ (search in-part depth 7))
         (exact 6 (λ l. each-found _ _ _ _ _ (search in-part depth 7))
-        (exact 7 (λ l. each-found _ _ _ _ _ λ n p rows at. each-all _ _ _ λ x i r. role-told l at i (omega arith) (search in-part))
-        (exact 8 (λ l. each-found _ _ _ _ _ λ n p rows at. each-all _ _ _ λ x i r. others-told l at i (omega arith) (search in-part))
+        (exact 7 (λ l. each-found _ _ _ _ _ λ i p rows a b. each-all _ _ _ λ x m r. role-told l a b m (omega arith) (search in-part))
+        (exact 8 (λ l. each-found _ _ _ _ _ λ i p rows a b. each-all _ _ _ λ x m r. others-told l a b m (omega arith) (search in-part))
         (exact 9 (λ l. each-found _ _ _ _ _ (search in-part depth 7))
-        (exact 10 (λ l. each-found _ _ _ _ _ λ n t ms at f m. of-members l (omega arith) at f (search in-part))
-        (exact 11 (λ l. each-found _ _ _ _ _ λ n p rows at. each-all _ _ _ λ x i r. others-told l at i (omega arith) (search in-part))
+        (exact 10 (λ l. each-found _ _ _ _ _ λ i t ms p q f m. of-members l (omega arith) p q f (search in-part))
+        (exact 11 (λ l. each-found _ _ _ _ _ λ i p rows a b. each-all _ _ _ λ x m r. others-told l a b m (omega arith) (search in-part))
         tt))))))))))

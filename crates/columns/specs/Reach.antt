@@ -3,8 +3,8 @@ use Prim.Native.Nat.{ℕ, zero, suc, _+_, _*_, _-_, _≤_, _<_}
 use native.Mathlib.Nat.{suc-mul, mul-le-mul-right}
 use native.Mathlib.Omega.{arith}
 use mathlib.Core.Path.{_≡_, ap, _∙_}
-use mathlib.Core.List.{List, [], _∷_}
-use lib.ListN.{length, getD, take, drop, length-take, length-drop}
+use mathlib.Core.List.{List, [], _∷_, Memᴰ·append-left}
+use lib.ListN.{length, getD, take, drop, length-take, length-drop, take-append-drop}
 use Rattle.counting.specs.Terms.{Each}
 use Rattle.counting.specs.Laws.Members.{each-head, each-tail, each-cons, each-nil, getD-in}
 use Rattle.orm.specs.Population.{rowsOf}
@@ -48,14 +48,8 @@ module _ (s js : List ℕ) (width at i : ℕ) {k : ℕ} (h : Held s width js at)
   pub held-inside : at + k < length s
   held-inside = rw e (h .each _ (getD-in js i 0 l) .1)
 
-pub each-take : {A : Type 0} (P : A → Type 0) (n : ℕ) (l : List A) → Each P l → Each P (take n l)
-each-take P zero l e = each-nil P
-each-take P (suc n) [] e = each-nil P
-each-take P (suc n) (x ∷ l) e = each-cons P (each-head P e) (each-take P n l (each-tail P e))
-
 times-more : (n w : ℕ) → 0 < n → n * w ≡ (n - 1) * w + w
-times-more zero w h = absurd (omega arith)
-times-more (suc n) w h = let q : n ≡ suc n - 1 = omega arith in suc-mul n w ∙ ap (λ (m : ℕ). m * w + w) q
+times-more n w h = let k : n ≡ suc (n - 1) = omega arith in ap (λ (m : ℕ). m * w) k ∙ suc-mul (n - 1) w
 
 -- ---- the row with a number, and the first of the rows left
 
@@ -70,7 +64,7 @@ module _ (s : List ℕ) (r : Rows) (js : List ℕ) (k : Keyed s r js) where
 
   -- as far as the first n of the columns
   pub front-keyed : (n : ℕ) → Keyed s r (take n js)
-  front-keyed n = record { narrow = k .narrow; room = k .room; each = each-take _ n js (k .each) }
+  front-keyed n = record { narrow = k .narrow; room = k .room; each = λ j m. k .each j (rw take-append-drop at (Memᴰ·append-left (drop n js) m)) }
 
   module _ (at left : ℕ) (h : 0 < left) (e : at + left * r .width ≡ endOfRows r) where
     pub left-held : Held s (r .width) js at
@@ -82,10 +76,9 @@ module _ (s : List ℕ) (r : Rows) (js : List ℕ) (k : Keyed s r js) where
 -- ---- the value with a number, and the first of the values left
 
 module _ (s : List ℕ) (c : Column) (r : Reached s c) where
-  pub value-reached : {i : ℕ} (x : ℕ) → x < c .count → i ≡ x → c .start + i * c .step < length s
-  value-reached {i} x h e =
+  pub value-reached : (x : ℕ) → x < c .count → c .start + x * c .step < length s
+  value-reached x h =
       let z : suc x * c .step ≤ c .count * c .step = mul-le-mul-right (c .step) h in
-      let q : i * c .step ≡ x * c .step = ap (λ (m : ℕ). m * c .step) e in
       omega (arith, r .reach, suc-mul x (c .step))
 
   module _ (at left : ℕ) (h : 0 < left) (e : at + left * c .step ≡ endOfColumn c) where

@@ -4,8 +4,7 @@ ghost use Prim.Native.Nat.{_+_, _≤_, _<_, min};
 ghost use lib.Dec.{eqb};
 ghost use lib.ListN.{length, getD, take, drop};
 ghost use Rattle.counting.specs.Lists.{same, combination};
-ghost use Rattle.counting.specs.Distinct.{all, occurrences, allDiffer};
-ghost use Rattle.counting.specs.Totals.{bit};
+ghost use Rattle.counting.specs.Distinct.{occurrences, allDiffer};
 ghost use Rattle.orm.specs.Form.{inRange, _to_};
 ghost use Rattle.columns.specs.Values.{valuesIn, keysIn, occurring};
 ghost use Rattle.columns.specs.Reach.{Keyed, Held, Reached};
@@ -77,30 +76,6 @@ pub fn in_range(low: u32, high: u32, x: usize) -> bool
     x <= index(high)
 }
 
-// Every value of the column is `low` to `high`.
-pub fn all_in_range(s: &[u32], column: Column, low: u32, high: u32) -> bool
-    requires { ⌜ Reached (now s) column ⌝ }
-    ensures { λ r. ⌜ r ≡ all (inRange (low to high)) (valuesIn (now (s .entry)) column) ⌝ }
-{
-    let mut at = column.start;
-    let mut left = column.count;
-    while 0 < left {
-        if !in_range(low, high, index(value_at(s, at))) {
-            return false;
-        }
-        at += column.step;
-        left -= 1;
-    }
-    true
-}
-
-fn bit(b: bool) -> usize
-    ensures { λ r. ⌜ r ≡ bit b ⌝ }
-    ensures { λ r. ⌜ r ≤ 1 ⌝ }
-{
-    if b { 1 } else { 0 }
-}
-
 // Cell j of the row of `width` cells that starts at `at`.
 pub fn row_cell(s: &[u32], at: usize, width: usize, j: usize) -> u32
     requires { ⌜ j < width ⌝ }
@@ -137,9 +112,12 @@ fn occurrences(s: &[u32], rows: Rows, js: &[u32], a: usize) -> usize
     let mut left = rows.count;
     let mut n: usize = 0;
     while 0 < left {
-        n += bit(same_key(s, rows.width, js, a, at));
+        let here = at;
         at += rows.width;
         left -= 1;
+        if same_key(s, rows.width, js, a, here) {
+            n += 1;
+        }
     }
     n
 }

@@ -184,7 +184,7 @@ module _ (s : List ℕ) (c : Column) (ws ms₀ : List ℕ) (k : ℕ) where
 -- the value before those that were looked up is there
 module _ (s : List ℕ) (c : Column) (left : ℕ) (met : Met) (r : Reached s c) (b : met .count + left ≤ c .count) (h : 0 < left) where
   pub before-reached : c .start + (left - 1) * c .step < length s
-  before-reached = value-reached s c r (left - 1) (omega arith) refl
+  before-reached = value-reached s c r (left - 1) (omega arith)
 
   pub before-near : length s * 4 < 9223372036854775808 → c .start + (left - 1) * c .step < 18446744073709551616
   before-near l = omega (arith, before-reached)

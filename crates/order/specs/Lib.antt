@@ -1,6 +1,4 @@
 pub mod Rows
 pub mod Numbers
-pub mod Merge
-pub mod Values
-pub mod Around
+pub mod Steps
 pub mod Parts

@@ -3,7 +3,7 @@ use Prim.Native.Nat.{ℕ, _≤_, _<_}
 use native.Mathlib.Omega.{arith}
 use mathlib.Core.Path.{_≡_, refl, sym, ap, ap₂, _∙_}
 use mathlib.Core.Bool.{Bool, true, false, not, _&&_, _||_}
-use mathlib.Core.List.{List, _++_}
+use mathlib.Core.List.{List}
 use lib.Dec.{eqb, ltb}
 use lib.ListN.{length, getD, take, drop, replicate, length-take, length-drop}
 use borrow.Author.Tests.{eq-eqb, ne-eqb, not-true, not-false}
@@ -14,10 +14,9 @@ use Rattle.orm.specs.Population.{Population}
 use Rattle.orm.specs.Constraints.{valuesInRoles, allPlayed, K1, K2, K3, K10}
 use Rattle.orm.specs.Laws.Decided.{inRange-decides}
 use Rattle.faults.specs.Faults.{unless, given, lowered, faultsOf}
-use Rattle.faults.specs.Passes.{subtypeFaults, rolesFaults, memberFaults, typeFaults}
+use Rattle.faults.specs.Passes.{subtypeFaults, memberFaults, typeFaults}
 use Rattle.faults.specs.Laws.Lowest.{lowered-then}
 use Rattle.sorting.specs.Order.{sorted}
-use Rattle.sorting.specs.Sorted.{length-sorted}
 use Rattle.sorting.specs.Rising.{rising, Rising, rising-sorted}
 use Rattle.table.specs.Positions.{diagramOf}
 use Rattle.columns.specs.declared.Column.{Column}

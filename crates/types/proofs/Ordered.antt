@@ -8,7 +8,7 @@ use mathlib.Core.List.{List, [], _∷_, _++_, map, flatten}
 use lib.Dec.{eqb, ltb, leb}
 use lib.ListN.{length, getD, drop}
 use borrow.Author.Tests.{leb-true, le-leb, ltb-true, ltb-false, not-true, not-false}
-use Rattle.counting.specs.Terms.{_∈_, Each}
+use Rattle.counting.specs.Terms.{Each}
 use Rattle.counting.specs.Distinct.{all, member, within}
 use Rattle.counting.specs.Laws.Members.{getD-in}
 use Rattle.counting.specs.Laws.Index.{in-at, at-getD, at-below}
@@ -18,7 +18,7 @@ use Rattle.orm.specs.Supertypes.{hasRange}
 use Rattle.orm.specs.Form.{typeOf, _to_, inRange}
 use Rattle.orm.specs.Population.{Population}
 use Rattle.orm.specs.Meaning.{Between}
-use Rattle.orm.specs.Constraints.{Played, played, valuesInRoles, allPlayed, K3, K10}
+use Rattle.orm.specs.Constraints.{played, valuesInRoles, allPlayed, K3, K10}
 use Rattle.orm.specs.Laws.Decided.{inRange-decides}
 use Rattle.faults.specs.Faults.{unless, given, faultsOf}
 use Rattle.faults.specs.Passes.{belongs, fills, limited, subtypeFaults, roleFaults, rolesFaults, memberFaults}

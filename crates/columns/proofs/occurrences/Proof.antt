@@ -4,9 +4,8 @@ use Prim.Native.Nat.{_≤_, _+_, _*_}
 use mathlib.Core.Path.{_≡_}
 use lib.ListN.{take, drop}
 use Rattle.counting.specs.Lists.{combination}
-use Rattle.columns.specs.Walks.{next-here}
 use Rattle.columns.specs.Reach.{endOfRows, left-held, left-next}
-use Rattle.columns.proofs.Keys.{Counted, counted-none, counted-more}
+use Rattle.columns.proofs.Keys.{Counted, counted-none, counted-one, counted-other}
 use borrow.Author.Needs.{needs}
 use Rattle.columns.proofs.occurrences.Statement.{statement}
 use Rattle.columns.proofs.occurrences.Tie as tie
@@ -27,11 +26,12 @@ occurrences-spec =
     Inv-loop
     μ-loop
     (λ c. search needs)
+    (λ c. search needs)
+    (λ c. search needs)
     (λ c κs. search (needs, left-held))
-    (λ c κs. search needs)
     (λ c. search needs)
     (λ c. search needs)
+    (λ c. search (needs, counted-one, left-next))
     (λ c. search needs)
-    (λ c. search needs)
-    (λ c. search (needs, counted-more, next-here, left-next))
+    (λ c. search (needs, counted-other, left-next))
     (λ c. search (needs, counted-none)))

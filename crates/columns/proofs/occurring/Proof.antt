@@ -2,7 +2,6 @@
 -- Assumes nothing.
 use Prim.Native.Nat.{_+_, _*_}
 use mathlib.Core.Path.{_≡_}
-use Rattle.columns.specs.Walks.{next-here}
 use Rattle.columns.specs.Reach.{endOfRows, left-held, left-next}
 use Rattle.columns.proofs.Keys.{Occurring, occurring-none, occurring-not, occurring-more}
 use borrow.Author.Needs.{needs}
@@ -28,5 +27,5 @@ occurring-spec =
     (λ c. search needs)
     (λ c. search needs)
     (λ c. search needs)
-    (λ c. search (needs, occurring-more, next-here, left-next))
+    (λ c. search (needs, occurring-more, left-next))
     (λ c. search (needs, occurring-none)))

@@ -1,6 +1,5 @@
 -- `types::members_pass` meets its contract. Each fault is noted behind those before.
 -- Assumes nothing.
-use Rattle.sorting.specs.Rising.{Rising}
 use Rattle.types.proofs.Members.{members-told, paired-rising}
 use borrow.Author.Needs.{needs}
 use Rattle.types.proofs.members_pass.Statement.{statement}

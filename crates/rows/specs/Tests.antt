@@ -1,43 +1,58 @@
--- The columns of a predicate's groups, K9 group by group, and the faults of a predicate.
-use Prim.Native.Nat.{ℕ, suc}
-use mathlib.Core.Bool.{Bool, true, false, not, _&&_}
-use mathlib.Core.List.{List, [], _∷_, _++_, map}
-use lib.Dec.{eqb, leb}
-use Rattle.counting.specs.Lists.{combination}
-use Rattle.orm.specs.Diagram.{Role, Frequency}
-use Rattle.orm.specs.Sets.{select, rolesInGroup}
+-- The rows of a predicate, and its groups: their columns, their limits, and K9 of them.
+use Prim.Native.Nat.{ℕ, _+_, _≤_}
+use mathlib.Core.Path.{_≡_}
+use mathlib.Core.Bool.{Bool}
+use mathlib.Core.List.{List, _++_, map}
+use lib.ListN.{length, drop}
+use Rattle.counting.specs.Lists.{combination, upFrom, mapFrom}
+use Rattle.counting.specs.Distinct.{all}
+use Rattle.orm.specs.Diagram.{Frequency, Predicate}
+use Rattle.orm.specs.Form.{groupOf}
+use Rattle.orm.specs.Sets.{rolesInGroup}
+use Rattle.orm.specs.Constraints.{Grouped}
+use Rattle.faults.specs.Faults.{lowered}
+use Rattle.faults.specs.Passes.{predFaults}
+use Rattle.table.specs.Positions.{predLength, diagramOf}
+use Rattle.columns.specs.declared.Rows.{Rows}
 use Rattle.columns.specs.Values.{occurring}
-use Rattle.faults.specs.Faults.{Fault, unless}
+use Rattle.columns.specs.Differ.{Wide, rowsHeld}
+use Rattle.blocks.specs.Blocks.{predWidth}
+use Rattle.playing.specs.Places.{populationOf, predAt}
+use Rattle.rows.specs.declared.Group.{Group}
 
--- A role is in the group with the number `g`, or it is not
-unfoldable pub chosen : ℕ → Bool → Role → Bool
-chosen g true r = eqb (r .group) g
-chosen g false r = not (eqb (r .group) g)
+-- The predicate at `pred` is in the table and has few roles, and the rows have a cell for each, which is there
+pub record PredRows (t s : List ℕ) (pred : ℕ) (rows : Rows) : Type 0 where
+  pub inside : pred + predLength (drop pred t) ≤ length t
+  pub few : predWidth (predAt t pred) ≤ 6
+  pub width : rows .width ≡ predWidth (predAt t pred)
+  pub start : rows .start ≤ length s
+  pub wide : Wide (rows .width) (rowsHeld s rows)
 
--- The columns of such roles, counted from `i`
-unfoldable pub columnsOf : ℕ → Bool → ℕ → List Role → List ℕ
-columnsOf g inside i rs = select (chosen g inside) i rs
+-- `js` are the columns of the predicate's group with the number `g`, which has these limits, and then all its columns
+pub record GroupHere (p : Predicate) (g : ℕ) (f : Frequency) (js : List ℕ) (x : Group) : Type 0 where
+  pub columns : js ≡ rolesInGroup g 0 (p .roles) ++ upFrom 0 (predWidth p)
+  pub own : x .own ≡ length (rolesInGroup g 0 (p .roles))
+  pub fits : x .own ≤ length js
+  pub all : x .all ≡ length js
+  pub few : x .all ≤ 12
+  pub low : x .low ≡ f .fmin
+  pub high : x .high ≡ f .fmax
 
--- One number more behind a list, where the test holds
-abbrev pub pushed : Bool → List ℕ → ℕ → List ℕ
-pushed true l j = l ++ j ∷ []
-pushed false l j = l
+-- The predicate's group with the number `g`, and its combinations in these rows
+abbrev pub groupIn : Predicate → List (List ℕ) → ℕ → Frequency → Grouped
+groupIn p rows g f = record { frequency = f; combinations = map (combination (rolesInGroup g 0 (p .roles))) rows }
 
--- Limits that no `n` rows can break: what a row holds occurs at least once, and at most in all rows
-unfoldable pub loose : ℕ → ℕ → ℕ → Bool
-loose low high n = eqb low 1 && leb n high
+-- K9 of one group; of that of the predicate at `pred` with the number `g` and its line at `line`
+unfoldable pub groupTest : Grouped → Bool
+groupTest x = occurring (x .frequency .fmin) (x .frequency .fmax) (x .combinations) (x .combinations)
 
--- K9 of the group with the number `g`, in a predicate with these roles and rows
-unfoldable pub groupTest : ℕ → Frequency → List Role → List (List ℕ) → Bool
-groupTest g f rs rows =
-    let ks : List (List ℕ) = map (combination (rolesInGroup g 0 rs)) rows in
-    occurring (f .fmin) (f .fmax) ks ks
+abbrev pub groupKept : List ℕ → List ℕ → Rows → ℕ → ℕ → ℕ → Bool
+groupKept t s rows pred g line = groupTest (groupIn (predAt t pred) (rowsHeld s rows) g (groupOf (drop line t)))
 
--- of some groups, the first of them with the number `g`
-unfoldable pub groupsTest : ℕ → List Frequency → List Role → List (List ℕ) → Bool
-groupsTest g [] rs rows = true
-groupsTest g (f ∷ fs) rs rows = groupTest g f rs rows && groupsTest (suc g) fs rs rows
+-- K9 of some groups, the first of them with the number `g`
+unfoldable pub groupsTest : Predicate → List (List ℕ) → ℕ → List Frequency → Bool
+groupsTest p rows g fs = all groupTest (mapFrom (groupIn p rows) g fs)
 
--- The faults of the predicate with this number, of which K5, K6 and K9 are known
-unfoldable pub told : Bool → Bool → Bool → ℕ → List Fault
-told differ sized grouped n = unless differ 5 n ++ unless sized 6 n ++ unless grouped 9 n
+-- Of the lowest numbers, `e` become `e′` by the faults of the predicate at `pred`, which has the number `own`
+pub record Noted (t s : List ℕ) (rows : Rows) (pred own : ℕ) (e e′ : List ℕ) : Type 0 where
+  pub is : e′ ≡ lowered (predFaults (diagramOf t) (populationOf t s) own (predAt t pred) (rowsHeld s rows)) e

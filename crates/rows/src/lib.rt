@@ -1,208 +1,126 @@
-// The pass over predicates: K5, K6 and K9 of each. Its rows are put in order once, by the columns of its first group and then by the
-// others: this order shows which rows are equal, and how often what they hold in the group occurs.
+// The pass over predicates: K5, K6 and K9 of each. Its rows are put in order once, by the columns of its first group and then by all:
+// this order shows which rows are equal, and how often what they hold in the group occurs.
 use columns::Rows;
 use runs::Outcome;
 ghost use mathlib.Core.Path.{_≡_};
-ghost use mathlib.Core.List.{_++_};
-ghost use Prim.Native.Nat.{_+_, _*_, _≤_, _<_};
+ghost use Prim.Native.Nat.{_+_, _≤_};
 ghost use lib.ListN.{length, take, drop};
 ghost use Rattle.orm.specs.Form.{groupOf};
 ghost use Rattle.orm.specs.Constraints.{K5, K6, K9};
 ghost use Rattle.faults.specs.Faults.{lowered, faultsOf};
 ghost use Rattle.faults.specs.Passes.{predFaults};
-ghost use Rattle.table.specs.Positions.{wideRole, predLength, groupsStart, groupsIn, diagramOf, Walkable};
+ghost use Rattle.table.specs.Positions.{predLength, groupsStart, diagramOf, Walkable};
+ghost use Rattle.columns.specs.Differ.{rowsHeld};
 ghost use Rattle.order.specs.Parts.{Scratch};
 ghost use Rattle.blocks.specs.Blocks.{predWidth};
 ghost use Rattle.blocks.specs.Places.{RowsHere};
-ghost use Rattle.blocks.specs.Standing.{PredHere};
 ghost use Rattle.blocks.specs.Starts.{Populated, Located};
-ghost use Rattle.playing.specs.Places.{populationOf, predAt, rowsHere};
-ghost use Rattle.rows.specs.Tests.{chosen, columnsOf, pushed, loose, groupTest, groupsTest, told};
+ghost use Rattle.playing.specs.Places.{populationOf, predAt};
+ghost use Rattle.rows.specs.Tests.{PredRows, GroupHere, groupKept, Noted};
 
-// ---- columns
-
-// The role at `role` is in group g, or is not.
-fn is_chosen(t: &[u32], role: usize, g: u32, inside: bool) -> bool
-    requires { ⌜ Walkable (now t) ⌝ }
-    ensures { λ r. ⌜ r ≡ chosen g inside (wideRole (drop role (now (t .entry)))) ⌝ }
-{
-    let group = table::field(t, role, 2);
-    if inside {
-        return group == g;
-    }
-    group != g
+// How many columns a group has, and with all columns behind them; its limits.
+struct Group {
+    own: usize,
+    all: usize,
+    low: u32,
+    high: u32,
 }
 
-// j goes behind the first n of `out` where the test holds; how many there are then.
-fn push(holds: bool, out: &mut [u32], n: usize, j: u32) -> usize
-    requires { ⌜ n < length (now out) ⌝ }
-    ensures { λ r. ⌜ take r (now (out .exit)) ≡ pushed holds (take n (now (out .entry))) j ⌝ }
-    ensures { λ r. ⌜ n ≤ r ⌝ }
-    ensures { λ r. ⌜ r ≤ n + 1 ⌝ }
-{
-    if !holds {
-        return n;
-    }
-    out[n] = j;
-    n + 1
-}
-
-// The columns of the roles in group g, or of those that are not, go behind the first `from` of `out`; how many there are then.
-fn push_columns(t: &[u32], pred: usize, g: u32, inside: bool, out: &mut [u32], from: usize) -> usize
+// Group g of the predicate at `pred`, with its line at `line`: its columns go to the front of `js`, and all columns behind them.
+fn group_of(t: &[u32], pred: usize, g: u32, line: usize, js: &mut [u32]) -> Group
     requires { ⌜ Walkable (now t) ⌝ }
     requires { ⌜ pred + predLength (drop pred (now t)) ≤ length (now t) ⌝ }
     requires { ⌜ predWidth (predAt (now t) pred) ≤ 6 ⌝ }
-    requires { ⌜ from + 6 ≤ length (now out) ⌝ }
-    ensures { λ r. ⌜ take r (now (out .exit)) ≡ take from (now (out .entry)) ++ columnsOf g inside 0 (predAt (now (t .entry)) pred .roles) ⌝ }
-    ensures { λ r. ⌜ r ≡ length (take r (now (out .exit))) ⌝ }
-    ensures { λ r. ⌜ from ≤ r ⌝ }
-    ensures { λ r. ⌜ r ≤ from + 6 ⌝ }
+    requires { ⌜ length (now js) ≡ 12 ⌝ }
+    ensures { λ r. ⌜ GroupHere (predAt (now (t .entry)) pred) g (groupOf (drop line (now (t .entry)))) (take (r .all) (now (js .exit))) r ⌝ }
 {
-    let mut role = table::roles_at(t, pred);
-    let mut j: u32 = 0;
-    let mut left = blocks::width(t, pred);
-    let mut n = from;
-    while 0 < left {
-        n = push(is_chosen(t, role, g, inside), out, n, j);
-        role += table::ROLE_WIDTH;
-        j += 1;
-        left -= 1;
+    let width = table::number(t, pred, 2);
+    let own = selection::push_roles(t, table::roles_at(t, pred), width, 0, g, js, 0);
+    let all = selection::push_up(js, own, 0, width);
+    Group {
+        own: own,
+        all: all,
+        low: table::field(t, line, 0),
+        high: table::field(t, line, 1),
     }
-    n
 }
 
-// Room for the columns of two walks over up to 6 roles.
-fn twelve() -> [u32; 12] {
-    [0u32; 12]
-}
+// ---- of the predicate at `pred` in the table, with these rows
 
-// ---- of the predicate at `pred` in the table, with its block at `at` in the cells
-
-fn rows_of(t: &[u32], cells: &[u32], pred: usize, at: usize) -> Rows
-    requires { ⌜ Walkable (now t) ⌝ }
-    ensures { λ r. ⌜ RowsHere (now (cells .entry)) at (predWidth (predAt (now (t .entry)) pred)) r ⌝ }
-{
-    blocks::rows(cells, at, blocks::width(t, pred))
-}
-
-// K6: its size is MIN to MAX.
-fn pred_size(t: &[u32], cells: &[u32], pred: usize, at: usize) -> bool
-    requires { ⌜ Walkable (now t) ⌝ }
-    ensures { λ r. ⌜ r ≡ K6 (predAt (now (t .entry)) pred) (rowsHere (now (t .entry)) (now (cells .entry)) pred at) ⌝ }
-{
-    let size = columns::index(columns::cell(cells, at, 0));
-    columns::in_range(table::field(t, pred, 0), table::field(t, pred, 1), size)
-}
-
-// K5, and K9 of its first group, whose line is at `line`.
+// K5, and K9 of the first group, by one order.
 fn first_tests(
     t: &[u32],
     cells: &[u32],
+    rows: Rows,
     pred: usize,
-    at: usize,
-    line: usize,
     list: &mut [u32],
     spare: &mut [u32],
 ) -> Outcome
     requires { ⌜ Walkable (now t) ⌝ }
-    requires { ⌜ PredHere (now t) (now cells) pred at ⌝ }
+    requires { ⌜ PredRows (now t) (now cells) pred rows ⌝ }
     requires { ⌜ Scratch (now list) (now spare) ⌝ }
-    ensures { λ r. ⌜ r .differ ≡ K5 (predAt (now (t .entry)) pred) (rowsHere (now (t .entry)) (now (cells .entry)) pred at) ⌝ }
-    ensures { λ r. ⌜ r .kept ≡ groupTest 1 (groupOf (drop line (now (t .entry)))) (predAt (now (t .entry)) pred .roles) (rowsHere (now (t .entry)) (now (cells .entry)) pred at) ⌝ }
+    ensures { λ r. ⌜ r .differ ≡ K5 (predAt (now (t .entry)) pred) (rowsHeld (now (cells .entry)) rows) ⌝ }
+    ensures { λ r. ⌜ r .kept ≡ groupKept (now (t .entry)) (now (cells .entry)) rows pred 1 (pred + groupsStart (drop pred (now (t .entry)))) ⌝ }
 {
-    let rows = rows_of(t, cells, pred, at);
-    let low = table::field(t, line, 0);
-    let high = table::field(t, line, 1);
-    let mut js = twelve();
-    let n = push_columns(t, pred, 1, true, &mut js, 0);
-    let m = push_columns(t, pred, 1, false, &mut js, n);
-    runs::rows_and_group(cells, rows, &js[..m], n, low, high, list, spare)
+    let mut js = [0u32; 12];
+    let x = group_of(t, pred, 1, table::groups_at(t, pred), &mut js);
+    let all = x.all;
+    let own = x.own;
+    runs::rows_and_group(cells, rows, &js[..all], own, x.low, x.high, list, spare)
 }
 
-// Limits that so many rows can't break.
-fn is_loose(low: u32, high: u32, count: usize) -> bool
-    ensures { λ r. ⌜ r ≡ loose low high count ⌝ }
-{
-    if low != 1 {
-        return false;
-    }
-    count <= columns::index(high)
-}
-
-// K9 of its group g, whose line is at `line`, by an order of its own.
-fn group_sorted(
-    t: &[u32],
-    cells: &[u32],
-    pred: usize,
-    at: usize,
-    g: u32,
-    line: usize,
-    list: &mut [u32],
-    spare: &mut [u32],
-) -> bool
-    requires { ⌜ Walkable (now t) ⌝ }
-    requires { ⌜ PredHere (now t) (now cells) pred at ⌝ }
-    requires { ⌜ Scratch (now list) (now spare) ⌝ }
-    ensures { λ r. ⌜ r ≡ groupTest g (groupOf (drop line (now (t .entry)))) (predAt (now (t .entry)) pred .roles) (rowsHere (now (t .entry)) (now (cells .entry)) pred at) ⌝ }
-{
-    let rows = rows_of(t, cells, pred, at);
-    let low = table::field(t, line, 0);
-    let high = table::field(t, line, 1);
-    let mut js = twelve();
-    let n = push_columns(t, pred, g, true, &mut js, 0);
-    runs::occurring(cells, rows, &js[..n], low, high, list, spare)
-}
-
-// K9 of its group g, whose line is at `line`.
+// K9 of group g, whose line is at `line`.
 fn group_keeps(
     t: &[u32],
     cells: &[u32],
+    rows: Rows,
     pred: usize,
-    at: usize,
     g: u32,
     line: usize,
     list: &mut [u32],
     spare: &mut [u32],
 ) -> bool
     requires { ⌜ Walkable (now t) ⌝ }
-    requires { ⌜ PredHere (now t) (now cells) pred at ⌝ }
+    requires { ⌜ PredRows (now t) (now cells) pred rows ⌝ }
     requires { ⌜ Scratch (now list) (now spare) ⌝ }
-    ensures { λ r. ⌜ r ≡ groupTest g (groupOf (drop line (now (t .entry)))) (predAt (now (t .entry)) pred .roles) (rowsHere (now (t .entry)) (now (cells .entry)) pred at) ⌝ }
+    ensures { λ r. ⌜ r ≡ groupKept (now (t .entry)) (now (cells .entry)) rows pred g line ⌝ }
 {
-    let rows = rows_of(t, cells, pred, at);
-    if is_loose(
-        table::field(t, line, 0),
-        table::field(t, line, 1),
-        rows.count,
-    ) {
-        return true;
-    }
-    group_sorted(t, cells, pred, at, g, line, list, spare)
+    let mut js = [0u32; 12];
+    let x = group_of(t, pred, g, line, &mut js);
+    let all = x.all;
+    let own = x.own;
+    let columns = &js[..all];
+    runs::occurring(cells, rows, &columns[..own], x.low, x.high, list, spare)
 }
 
-// K9 of its `count` groups from the second on, whose lines start at `lines`.
-fn further_keep(
+// K9, where `first` says it of the first group.
+fn groups_keep(
     t: &[u32],
     cells: &[u32],
+    rows: Rows,
     pred: usize,
-    at: usize,
-    lines: usize,
-    count: u32,
+    first: bool,
     list: &mut [u32],
     spare: &mut [u32],
 ) -> bool
     requires { ⌜ Walkable (now t) ⌝ }
-    requires { ⌜ PredHere (now t) (now cells) pred at ⌝ }
+    requires { ⌜ PredRows (now t) (now cells) pred rows ⌝ }
     requires { ⌜ Scratch (now list) (now spare) ⌝ }
-    requires { ⌜ count ≤ 999999 ⌝ }
-    requires { ⌜ lines + 2 * count ≤ length (now t) ⌝ }
-    ensures { λ r. ⌜ r ≡ groupsTest 2 (groupsIn count (drop lines (now (t .entry)))) (predAt (now (t .entry)) pred .roles) (rowsHere (now (t .entry)) (now (cells .entry)) pred at) ⌝ }
+    requires { ⌜ first ≡ groupKept (now t) (now cells) rows pred 1 (pred + groupsStart (drop pred (now t))) ⌝ }
+    ensures { λ r. ⌜ r ≡ K9 (predAt (now (t .entry)) pred) (rowsHeld (now (cells .entry)) rows) ⌝ }
 {
-    let mut line = lines;
+    let count = table::field(t, pred, 3);
+    if count == 0 {
+        return true;
+    }
+    if !first {
+        return false;
+    }
+    let mut line = table::groups_at(t, pred) + 2;
     let mut g: u32 = 2;
-    let mut left = count;
+    let mut left = count - 1;
     while 0 < left {
-        if !group_keeps(t, cells, pred, at, g, line, list, spare) {
+        if !group_keeps(t, cells, rows, pred, g, line, list, spare) {
             return false;
         }
         line += 2;
@@ -212,66 +130,68 @@ fn further_keep(
     true
 }
 
-// K9, where `first` says it of the first group, whose line is at `line`.
-fn groups_keep(
-    t: &[u32],
-    cells: &[u32],
-    pred: usize,
-    at: usize,
-    line: usize,
-    first: bool,
-    list: &mut [u32],
-    spare: &mut [u32],
-) -> bool
-    requires { ⌜ Walkable (now t) ⌝ }
-    requires { ⌜ PredHere (now t) (now cells) pred at ⌝ }
-    requires { ⌜ Scratch (now list) (now spare) ⌝ }
-    requires { ⌜ line ≡ pred + groupsStart (drop pred (now t)) ⌝ }
-    requires { ⌜ first ≡ groupTest 1 (groupOf (drop line (now t))) (predAt (now t) pred .roles) (rowsHere (now t) (now cells) pred at) ⌝ }
-    ensures { λ r. ⌜ r ≡ K9 (predAt (now (t .entry)) pred) (rowsHere (now (t .entry)) (now (cells .entry)) pred at) ⌝ }
-{
-    let count = table::field(t, pred, 3);
-    if count == 0 {
-        return true;
-    }
-    if !first {
-        return false;
-    }
-    further_keep(t, cells, pred, at, line + 2, count - 1, list, spare)
+// Whether K5, K6 and K9 are kept.
+struct Kept {
+    differ: bool,
+    sized: bool,
+    grouped: bool,
 }
 
-// Whether K5, K6 and K9 are kept by the predicate with this number.
-fn note_pred(differ: bool, sized: bool, grouped: bool, number: u32, lowest: &mut [u32])
-    requires { ⌜ length (now lowest) ≡ 12 ⌝ }
-    ensures { λ _. ⌜ now (lowest .exit) ≡ lowered (told differ sized grouped number) (now (lowest .entry)) ⌝ }
+fn tests(
+    t: &[u32],
+    cells: &[u32],
+    rows: Rows,
+    pred: usize,
+    list: &mut [u32],
+    spare: &mut [u32],
+) -> Kept
+    requires { ⌜ Walkable (now t) ⌝ }
+    requires { ⌜ PredRows (now t) (now cells) pred rows ⌝ }
+    requires { ⌜ Scratch (now list) (now spare) ⌝ }
+    ensures { λ r. ⌜ r .differ ≡ K5 (predAt (now (t .entry)) pred) (rowsHeld (now (cells .entry)) rows) ⌝ }
+    ensures { λ r. ⌜ r .sized ≡ K6 (predAt (now (t .entry)) pred) (rowsHeld (now (cells .entry)) rows) ⌝ }
+    ensures { λ r. ⌜ r .grouped ≡ K9 (predAt (now (t .entry)) pred) (rowsHeld (now (cells .entry)) rows) ⌝ }
 {
-    faults::note(differ, 5, number, lowest);
-    faults::note(sized, 6, number, lowest);
-    faults::note(grouped, 9, number, lowest);
+    let low = table::field(t, pred, 0);
+    let high = table::field(t, pred, 1);
+    let sized = columns::in_range(low, high, rows.count);
+    let outcome = first_tests(t, cells, rows, pred, list, spare);
+    Kept {
+        differ: outcome.differ,
+        sized: sized,
+        grouped: groups_keep(t, cells, rows, pred, outcome.kept, list, spare),
+    }
 }
 
 // The predicate has the number `own`.
 fn pred_pass(
     t: &[u32],
     cells: &[u32],
+    rows: Rows,
     pred: usize,
-    at: usize,
     own: u32,
     list: &mut [u32],
     spare: &mut [u32],
     lowest: &mut [u32],
 )
     requires { ⌜ Walkable (now t) ⌝ }
-    requires { ⌜ PredHere (now t) (now cells) pred at ⌝ }
+    requires { ⌜ PredRows (now t) (now cells) pred rows ⌝ }
     requires { ⌜ Scratch (now list) (now spare) ⌝ }
     requires { ⌜ length (now lowest) ≡ 12 ⌝ }
-    ensures { λ _. ⌜ now (lowest .exit) ≡ lowered (predFaults (diagramOf (now (t .entry))) (populationOf (now (t .entry)) (now (cells .entry))) own (predAt (now (t .entry)) pred) (rowsHere (now (t .entry)) (now (cells .entry)) pred at)) (now (lowest .entry)) ⌝ }
+    ensures { λ _. ⌜ Noted (now (t .entry)) (now (cells .entry)) rows pred own (now (lowest .entry)) (now (lowest .exit)) ⌝ }
 {
-    let line = table::groups_at(t, pred);
-    let outcome = first_tests(t, cells, pred, at, line, list, spare);
-    let sized = pred_size(t, cells, pred, at);
-    let grouped = groups_keep(t, cells, pred, at, line, outcome.kept, list, spare);
-    note_pred(outcome.differ, sized, grouped, own, lowest);
+    let kept = tests(t, cells, rows, pred, list, spare);
+    faults::note(kept.differ, 5, own, lowest);
+    faults::note(kept.sized, 6, own, lowest);
+    faults::note(kept.grouped, 9, own, lowest);
+}
+
+// Its rows, whose block is at `at` in the cells.
+fn rows_of(t: &[u32], cells: &[u32], pred: usize, at: usize) -> Rows
+    requires { ⌜ Walkable (now t) ⌝ }
+    ensures { λ r. ⌜ RowsHere (now (cells .entry)) at (predWidth (predAt (now (t .entry)) pred)) r ⌝ }
+{
+    blocks::rows(cells, at, blocks::width(t, pred))
 }
 
 // K5, K6 and K9 of all predicates; `list` and `spare` are scratch.
@@ -296,16 +216,8 @@ pub fn pass(
     let mut left = table::pred_count(t);
     while 0 < left {
         let next = table::next_pred(t, pred);
-        pred_pass(
-            t,
-            cells,
-            pred,
-            blocks::block(starts, k),
-            own,
-            list,
-            spare,
-            lowest,
-        );
+        let rows = rows_of(t, cells, pred, blocks::block(starts, k));
+        pred_pass(t, cells, rows, pred, own, list, spare, lowest);
         pred = next;
         k += 1;
         own += 1;

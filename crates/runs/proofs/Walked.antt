@@ -1,144 +1,169 @@
--- The walk down a list of rows in order: the runs that are left come to all.
-use Prim.Native.Nat.{ℕ, suc, _+_, _*_, _≤_, _<_}
+-- What sorting comes to, the walk down a list of rows in order, run by run, and limits that no rows can break.
+use Prim.Native.Nat.{ℕ, zero, suc, _+_, _*_, _-_, _≤_, _<_}
+use native.Mathlib.Nat.{suc-mul, zero-mul}
 use native.Mathlib.Numerals.{add-one}
 use native.Mathlib.Omega.{arith}
-use mathlib.Core.Path.{_≡_, refl, sym, ap, subst, _∙_}
-use mathlib.Core.Bool.{Bool, true, false, _||_, _&&_, not}
-use mathlib.Core.List.{List, [], _∷_, map}
-use lib.Dec.{leb, ltb}
-use lib.ListN.{length, getD, take, drop, drop-of-length-le}
-use lib.Seq.{drop-cons, drop-drop, length-take-le}
-use borrow.Author.Tests.{not-true, not-false, le-leb, lt-leb, ltb-false}
-use Rattle.counting.specs.Lists.{same, combination}
+use mathlib.Core.Path.{_≡_, refl, sym, ap, _∙_}
+use mathlib.Core.Bool.{Bool, true, false, not, and-true, false≢true}
+use mathlib.Core.List.{List, [], _∷_, _++_, map}
+use lib.ListN.{length, getD, take, drop, drop-of-length-le, length-map, length-append}
+use lib.Seq.{drop-cons, drop-drop, length-take-le, take-at}
+use borrow.Author.Tests.{not-true, not-false}
+use Rattle.counting.specs.Lists.{same, combination, upFrom}
+use Rattle.counting.specs.Distinct.{occurrences}
+use Rattle.counting.specs.Laws.Distinct.{all-decides}
 use Rattle.counting.specs.Laws.Instances.{same-decides}
-use Rattle.sorting.specs.Runs.{runsFrom, runs}
+use Rattle.counting.specs.Laws.Range.{in-below-iff}
+use Rattle.sorting.specs.Sorted.{each-sorted}
+use Rattle.sorting.specs.Lexical.{before-strict, before-front}
+use Rattle.sorting.specs.Runs.{runsFrom, runs, eachOccurs, runs-sorted}
 use Rattle.orm.specs.Form.{_to_, inRange}
+use Rattle.orm.specs.Population.{rowsOf}
+use Rattle.orm.specs.Laws.Decided.{inRange-decides}
 use Rattle.columns.specs.declared.Rows.{Rows}
+use Rattle.columns.specs.Values.{keysOf, keysIn, occurring}
+use Rattle.columns.specs.Single.{occurs}
 use Rattle.columns.specs.Reach.{Keyed, front-keyed}
-use Rattle.order.specs.Rows.{keyOf, rowOrder}
-use Rattle.order.specs.Parts.{Scratch}
-use Rattle.order.specs.Numbers.{Numbers, numbers-at, numbers-sorted}
-use Rattle.runs.specs.Runs.{runsBetween, Ordered, runAfter, isCompared}
+use Rattle.order.specs.Rows.{keyOf, rowLess, rowOrder, row-weak}
+use Rattle.order.specs.Numbers.{Numbers}
+use Rattle.runs.specs.Runs.{runsOf, Run, Ready, rowsOf-length}
 
-pub same-rows : (s : List ℕ) (r : Rows) (js : List ℕ) (x y a b : ℕ) {t : Bool}
-    → a ≡ r .start + x * r .width → b ≡ r .start + y * r .width
-    → t ≡ same (combination js (take (r .width) (drop a s))) (combination js (take (r .width) (drop b s)))
-    → t ≡ same (keyOf s r js x) (keyOf s r js y)
-unfolding keyOf
-same-rows s r js x y a b p q e = rw (drop-drop (x * r .width) (r .start) s, drop-drop (y * r .width) (r .start) s, ← p, ← q) e
-
--- ---- which rows are compared
-
-module _ (room n : ℕ) where
-  pub compared-few : n ≤ 16 → true ≡ isCompared room n
-  unfolding isCompared
-  compared-few h = rw (le-leb n 16 h)
-
-  pub compared-many : 16 < n → ltb room n ≡ isCompared room n
-  unfolding isCompared
-  compared-many h = rw (lt-leb n 16 h)
-
-  pub sorted-few : {b : Bool} → b ≡ isCompared room n → b ≡ false → n ≤ room
-  unfolding isCompared
-  sorted-few e f = go (leb n 16) (sym e ∙ f)
-    where
-      go : (c : Bool) → (c || ltb room n) ≡ false → n ≤ room
-      go true q = let z : _≡_ {A = ℕ} 0 1 = cc in absurd (omega arith)
-      go false q = ltb-false room n q
-
--- ---- row numbers in the list
+-- ---- one run, and all
 
 module _ (s : List ℕ) (rows : Rows) (js list : List ℕ) where
-  pub first-below : {x : ℕ} → Numbers s rows js list → ¬ (length list ≡ 0) → x ≡ getD list 0 0 → x < rows .count
-  first-below h n e = numbers-at s rows js list 0 h (omega arith) e
+  -- the row with the number at place i starts at `at`
+  pub row-key : {x at : ℕ} (i : ℕ) → x ≡ getD list i 0 → at ≡ rows .start + x * rows .width
+      → combination js (take (rows .width) (drop at s)) ≡ keyOf s rows js (getD list i 0)
+  unfolding keyOf
+  row-key {x} i e p = rw (p, ← e, drop-drop (x * rows .width) (rows .start) s)
 
-  pub ordered : (before spare : List ℕ) → Scratch before spare → Keyed s rows js → length before ≡ rows .count
-      → list ≡ rowOrder s rows js (length before) → length list ≡ length before → Ordered s rows js list
-  ordered before spare h k e q l = record { keyed = k; few = omega (arith, h .few); order = q ∙ ap (rowOrder s rows js) e }
+  -- the run from place i on, of rows like that at `first`, goes as far as place j at least
+  pub record Going (first i j : ℕ) : Type 0 where
+    pub all : (ok : ℕ → Bool) → runsFrom same ok (combination js (take (rows .width) (drop first s))) (j - i) (map (keyOf s rows js) (drop j list))
+        ≡ runsOf ok s rows js (drop i list)
 
-  pub ordered-numbers : Ordered s rows js list → Numbers s rows js list
-  ordered-numbers o = numbers-sorted s rows js list (rows .count) (o .keyed) (omega arith) (o .order)
+  pub run-start : {x first : ℕ} (i : ℕ) → i < length list → x ≡ getD list i 0 → first ≡ rows .start + x * rows .width → Going first i (i + 1)
+  unfolding runs
+  run-start i h e p = let one : i + 1 - i ≡ 1 = omega arith in record { all = λ ok. rw (row-key i e p, one, add-one, drop-cons list i 0 h) }
 
-  pub front-numbers : (n : ℕ) → Ordered s rows js list → Numbers s rows (take n js) list
-  front-numbers n o = record { keyed = front-keyed s rows js (o .keyed) n; below = ordered-numbers o .below }
+  module _ {first i j : ℕ} (g : Going first i j) where
+    pub run-last : length list ≤ j → Run s rows js list i j
+    unfolding runsFrom runs
+    run-last h = record { is = λ ok. rw (drop-of-length-le list h, and-true) (sym (rw (drop-of-length-le list h) at (g .all ok))) }
 
-pub front-long : (js : List ℕ) (n : ℕ) → n ≤ length js → n ≡ length (take n js)
-front-long js n h = sym (length-take-le n js h)
+    module _ {x next : ℕ} {b : Bool} (h : j < length list) (e : x ≡ getD list j 0) (p : next ≡ rows .start + x * rows .width)
+        (q : b ≡ same (combination js (take (rows .width) (drop first s))) (combination js (take (rows .width) (drop next s)))) where
+      like : b ≡ same (combination js (take (rows .width) (drop first s))) (keyOf s rows js (getD list j 0))
+      like = rw (row-key j e p) at q
 
-pub run-on : (b c : Bool) → b ≡ true → true ≡ b || c
-run-on b c e = rw e
+      pub run-on : i < j → not b ≡ false → Going first i (j + 1)
+      unfolding runsFrom
+      run-on l n =
+          let more : j + 1 - i ≡ suc (j - i) = omega arith in
+          record { all = λ ok. rw (more, add-one) (rw (drop-cons list j 0 h, runsFrom, ← like, not-false b n) at (g .all ok)) }
 
-pub run-ends : (b : Bool) {c d : Bool} → b ≡ false → d ≡ c → d ≡ b || c
-run-ends b e h = rw e h
+      pub run-ends : not b ≡ true → Run s rows js list i j
+      unfolding runsFrom runs
+      run-ends n = record { is = λ ok. rw (drop-cons list j 0 h) (sym (rw (drop-cons list j 0 h, runsFrom, ← like, not-true b n) at (g .all ok))) }
 
-pub after-on : (b : Bool) (n : ℕ) → b ≡ true → n + 1 ≡ runAfter b n
-unfolding runAfter
-after-on b n e = rw e
+-- ---- sorting
 
-pub after-end : (b : Bool) (n : ℕ) → b ≡ false → 1 ≡ runAfter b n
-unfolding runAfter
-after-end b n e = rw e
+module _ (s : List ℕ) (rows : Rows) (js list : List ℕ) where
+  pub ready-not : Keyed s rows js → Ready s rows js list true
+  ready-not k = record { by = js; keyed = k; order = λ e. absurd (false≢true (sym e)); finer = λ x y q. q }
+
+  pub ready-sorted : (front : List ℕ) → Keyed s rows js → rows .count ≤ length list → front ≡ rowOrder s rows js (length (take (rows .count) list))
+      → length front ≡ length (take (rows .count) list) → Ready s rows js (front ++ drop (rows .count) list) false
+  ready-sorted front k h e l =
+      let n : length (take (rows .count) list) ≡ rows .count = length-take-le (rows .count) list h in
+      record {
+        by = js;
+        keyed = k;
+        order = λ _. (
+          omega (arith, length-append front (drop (rows .count) list)),
+          take-at front (drop (rows .count) list) (rows .count) (l ∙ n) ∙ e ∙ ap (rowOrder s rows js) n,
+        );
+        finer = λ x y q. q;
+      }
+
+  module _ {compared : Bool} (o : Ready s rows js list compared) (h : compared ≡ false) where
+    pub ready-part : rows .count ≡ length (take (rows .count) list)
+    ready-part = sym (length-take-le (rows .count) list (o .order h .0))
+
+    pub ready-numbers : Numbers s rows js (take (rows .count) list)
+    ready-numbers = record {
+      keyed = o .keyed;
+      below = rw (o .order h .1)
+          (each-sorted (λ (x : ℕ). x < rows .count) (rowLess s rows (o .by)) (upFrom 0 (rows .count)) (λ x. in-below-iff (rows .count) x .0));
+    }
+
+front-is : (s : List ℕ) (rows : Rows) (n : ℕ) (js : List ℕ) (x : ℕ) → keyOf s rows (take n js) x ≡ take n (keyOf s rows js x)
+unfolding keyOf combination
+front-is s rows zero js x = refl
+front-is s rows (suc n) [] x = refl
+front-is s rows (suc n) (j ∷ js) x = cc (front-is s rows n js x)
+
+-- An order by some columns is one by the first of them too
+pub ready-front : (s : List ℕ) (rows : Rows) (js list : List ℕ) (n : ℕ) {compared : Bool} → Ready s rows js list compared
+    → Ready s rows (take n js) list compared
+unfolding rowLess
+ready-front s rows js list n o = record {
+  by = o .by;
+  keyed = front-keyed s rows js (o .keyed) n;
+  order = o .order;
+  finer = λ x y q. o .finer x y (before-front n _ _ (rw (front-is s rows n js x, front-is s rows n js y) at q));
+}
+
+-- ---- the runs of all rows, in order
 
 module _ (low high : ℕ) (s : List ℕ) (rows : Rows) (js list : List ℕ) where
-  abbrev Left : ℕ → ℕ → ℕ → Bool
-  Left last n i = runsFrom same (inRange (low to high)) (keyOf s rows js last) n (map (keyOf s rows js) (drop i list))
+  -- those from place i on tell how often what the rows hold occurs
+  pub record Left (i : ℕ) : Type 0 where
+    pub rest : runsOf (inRange (low to high)) s rows js (drop i list) ≡ occurring low high (keysIn s rows js) (keysIn s rows js)
 
-  -- a run of the row `last`, `n` long so far, and the rows from i on
-  pub record Walked (last n i : ℕ) : Type 0 where
-    pub rest : Left last n i ≡ runsBetween low high s rows js list
+  module _ {i : ℕ} (w : Left i) where
+    pub left-end : length list ≤ i → true ≡ occurring low high (keysIn s rows js) (keysIn s rows js)
+    unfolding runs
+    left-end h = rw (drop-of-length-le list h) at (w .rest)
 
-  pub runs-none : length list ≡ 0 → true ≡ runsBetween low high s rows js list
-  unfolding runsBetween runs
-  runs-none e = go list e
-    where
-      go : (l : List ℕ) → length l ≡ 0 → true ≡ runs same (inRange (low to high)) (map (keyOf s rows js) l)
-      go [] h = refl
-      go (x ∷ l) h = absurd (omega arith)
+    module _ {j : ℕ} {b : Bool} (r : Run s rows js list i j) (e : b ≡ inRange (low to high) (j - i)) where
+      pub left-broken : not b ≡ true → false ≡ occurring low high (keysIn s rows js) (keysIn s rows js)
+      left-broken n = rw (r .is (inRange (low to high)), ← e, not-true b n) at (w .rest)
 
-  pub runs-start : {x : ℕ} → ¬ (length list ≡ 0) → x ≡ getD list 0 0 → Walked x 1 1
-  unfolding runsBetween runs
-  runs-start {x} n e = record { rest = go list n e }
-    where
-      go : (l : List ℕ) → ¬ (length l ≡ 0) → x ≡ getD l 0 0
-          → runsFrom same (inRange (low to high)) (keyOf s rows js x) 1 (map (keyOf s rows js) (drop 1 l)) ≡ runs same (inRange (low to high))
-          (map (keyOf s rows js) l)
-      go [] h e = absurd (h refl)
-      go (y ∷ l) h e = rw e
+      pub left-more : not b ≡ false → Left j
+      left-more n = record { rest = rw (r .is (inRange (low to high)), ← e, not-false b n) at (w .rest) }
 
-  module _ {last n i x : ℕ} {b k : Bool} (w : Walked last n i) (h : i < length list) (e : x ≡ getD list i 0)
-      (p : b ≡ same (keyOf s rows js last) (keyOf s rows js x)) (q : k ≡ b || inRange (low to high) n) where
-    abbrev Opened : Bool → Type 0
-    Opened c = elim c [ true ↦ Left last (suc n) (suc i) | false ↦ inRange (low to high) n && Left x 1 (suc i) ] ≡ runsBetween low high s rows js list
+keys-numbered : (k n w : ℕ) (js l : List ℕ) → map (λ (x : ℕ). combination js (take w (drop (x * w) l))) (upFrom k n) ≡ keysOf n w js (drop (k * w) l)
+unfolding upFrom keysOf rowsOf
+keys-numbered k zero w js l = refl
+keys-numbered k (suc n) w js l =
+    ap (combination js (take w (drop (k * w) l)) ∷_) (keys-numbered (suc k) n w js l ∙ ap (keysOf n w js) (rw suc-mul (sym (drop-drop w (k * w) l))))
 
-    opened : Opened b
-    unfolding runsFrom
-    opened =
-        let g : b ≡ same (keyOf s rows js last) (keyOf s rows js (getD list i 0)) = p
-        ∙ ap (λ (y : ℕ). same (keyOf s rows js last) (keyOf s rows js y)) e in
-        subst (λ (y : ℕ). elim b [
-          | true ↦ Left last (suc n) (suc i)
-          | false ↦ inRange (low to high) n && Left y 1
-              (suc i)
-        ] ≡ runsBetween low high s rows js list)
-        (sym e) (rw (drop-cons list i 0 h, runsFrom, ← g) at (w .rest))
+pub left-start : (low high : ℕ) (s : List ℕ) (rows : Rows) (js list : List ℕ) {compared : Bool} → Ready s rows js list compared → compared ≡ false
+    → Left low high s rows js (take (rows .count) list) 0
+unfolding occurring eachOccurs rowLess keyOf
+left-start low high s rows js list o h = record {
+  rest = ap (runsOf (inRange (low to high)) s rows js) (o .order h .1)
+      ∙ runs-sorted same-decides before-strict (inRange (low to high)) (keyOf s rows js) (row-weak s rows (o .by)) (o .finer) (upFrom 0 (rows .count))
+      ∙ ap (λ (l : List (List ℕ)). occurring low high l l) (keys-numbered 0 (rows .count) (rows .width) js (drop (rows .start) s) ∙ rw zero-mul);
+}
 
-    pub runs-broken : not k ≡ true → false ≡ runsBetween low high s rows js list
-    runs-broken t = go b q opened
-      where
-        go : (c : Bool) → k ≡ c || inRange (low to high) n → Opened c → false ≡ runsBetween low high s rows js list
-        go true z o = let f : k ≡ false = not-true k t in let y : _≡_ {A = ℕ} 0 1 = cc in absurd (omega arith)
-        go false z o = rw (sym z ∙ not-true k t) at o
+-- ---- limits that the rows can't break
 
-    pub runs-more : {m : ℕ} → not k ≡ false → m ≡ runAfter b n → Walked x m (i + 1)
-    unfolding runAfter
-    runs-more {m} t r = record { rest = rw add-one (go b p q r opened) }
-      where
-        go : (c : Bool) → c ≡ same (keyOf s rows js last) (keyOf s rows js x) → k ≡ c || inRange (low to high) n
-            → m ≡ elim c [ true ↦ n + 1 | false ↦ 1 ]
-            → Opened c → Left x m (suc i) ≡ runsBetween low high s rows js list
-        go true g z y o = rw (y, add-one, ← same-decides .iff (keyOf s rows js last) (keyOf s rows js x) .0 (sym g)) o
-        go false g z y o = rw y (rw (sym z ∙ not-false k t) at o)
+occurs-most : (v : List ℕ) (ks : List (List ℕ)) → occurrences same v ks ≤ length ks
+unfolding occurrences
+occurs-most v [] = omega arith
+occurs-most v (k ∷ ks) =
+    let h : occurrences same v ks ≤ length ks = occurs-most v ks in
+    elim (same v k) as (λ b. elim b as (λ _. ℕ) [ true ↦ suc (occurrences same v ks) | false ↦ occurrences same v ks ] ≤ suc (length ks)) [
+      | true ↦ omega arith
+      | false ↦ omega arith
+    ]
 
-  pub runs-end : {last n i : ℕ} {t : Bool} → Walked last n i → length list ≤ i → t ≡ inRange (low to high) n → t ≡ runsBetween low high s rows js list
-  unfolding runsFrom
-  runs-end w h e = e ∙ (rw (drop-of-length-le list h) at (w .rest))
+pub loose : (s : List ℕ) (rows : Rows) (js : List ℕ) {low high m : ℕ} → low ≡ 1 → m ≡ high → rows .count ≤ m
+    → true ≡ occurring low high (keysIn s rows js) (keysIn s rows js)
+unfolding occurring keysOf
+loose s rows js {low} {high} one e few =
+    let n : length (keysIn s rows js) ≡ rows .count = simp (length-map, rowsOf-length) in
+    sym (all-decides _ (λ v. inRange-decides low (occurrences same v (keysIn s rows js)) high) (keysIn s rows js) .1
+    (λ v m. (omega (arith, occurs same-decides m), omega (arith, occurs-most v (keysIn s rows js)))))

@@ -170,7 +170,7 @@ pub fn count_of_type(types: &[u32], number: u32) -> u32
 
 // Of the `count` roles from position q on, the sets of those in the group with this number; `first` is
 // the first role's set.
-fn push_roles(
+pub fn push_roles(
     t: &[u32],
     q: usize,
     count: u32,

@@ -1,6 +1,7 @@
--- `rows::group_keeps` meets its contract. Limits that the rows can't break are kept.
+-- `rows::group_keeps` meets its contract. The keys are the combinations in the group's columns.
 -- Assumes nothing.
-use Rattle.rows.proofs.Groups.{k9-loose}
+use Rattle.order.specs.Parts.{part-long}
+use Rattle.rows.proofs.Groups.{own-keyed, group-is}
 use borrow.Author.Needs.{needs}
 use Rattle.rows.proofs.group_keeps.Statement.{statement}
 use Rattle.rows.proofs.group_keeps.Tie as tie
@@ -9,12 +10,12 @@ pub group-keeps-spec : {M : Type 1} → statement M
 group-keeps-spec =
     tie.close
     (tie.spec
-    (λ c κs. search needs)
-    (λ c κs. search needs)
-    (λ c κs. search needs)
-    (λ c κs. search needs)
-    (λ c. search (needs, k9-loose))
+    (λ c. search needs)
     (λ c κs. search needs)
     (λ c. search needs)
     (λ c. search needs)
-    (λ c. search needs))
+    (λ c. search (needs, part-long))
+    (λ c κs. search (needs, own-keyed))
+    (λ c. search needs)
+    (λ c. search needs)
+    (λ c. search (needs, group-is)))

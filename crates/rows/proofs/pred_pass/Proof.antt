@@ -1,6 +1,5 @@
 -- `rows::pred_pass` meets its contract. The three tests are told.
 -- Assumes nothing.
-use Rattle.rows.proofs.Groups.{scratch-still}
 use Rattle.rows.proofs.Passing.{pred-told}
 use borrow.Author.Needs.{needs}
 use Rattle.rows.proofs.pred_pass.Statement.{statement}
@@ -13,8 +12,7 @@ pred-pass-spec =
     (λ c κs. search needs)
     (λ c κs. search needs)
     (λ c κs. search needs)
-    (λ c κs. (search needs, (search needs, (search (needs, scratch-still), (search needs, search needs)))))
-    (λ c κs. search (needs, c .before .before .before .before .before .before .before .before .before .before .before .before .before .before .before .before .before .before .before .before .before .before .pre .1))
+    (λ c κs. search needs)
     (λ c. search needs)
     (λ c. search needs)
     (λ c. search needs)

@@ -1,7 +1,6 @@
--- `runs::occurring` meets its contract. Rows that are not sorted are compared; the list has room for the others.
+-- `runs::occurring` meets its contract. So few rows break no limits, or they are sorted.
 -- Assumes nothing.
-use Rattle.order.specs.Parts.{part-long, part-is, part-scratch}
-use Rattle.runs.proofs.Walked.{sorted-few}
+use Rattle.runs.proofs.Walked.{loose}
 use borrow.Author.Needs.{needs}
 use Rattle.runs.proofs.occurring.Statement.{statement}
 use Rattle.runs.proofs.occurring.Tie as tie
@@ -11,11 +10,9 @@ occurring-spec =
     tie.close
     (tie.spec
     (λ c κs. search needs)
+    (λ c. search (needs, loose))
+    (λ c κs. search needs)
     (λ c κs. search needs)
     (λ c. search needs)
-    (λ c. search (needs, sorted-few))
-    (λ c. search (needs, part-long, sorted-few))
-    (λ c κs. (search needs, (search (needs, part-scratch, sorted-few), search (needs, part-is, sorted-few))))
-    (λ c. search (needs, part-is, sorted-few))
     (λ c. search needs)
     (λ c. search needs))

@@ -18,6 +18,7 @@ use Rattle.orm.specs.Diagram.{Role, Frequency, Predicate}
 use Rattle.orm.specs.Form.{groupOf, _to_, inRange}
 use Rattle.orm.specs.Sets.{rolesInGroup}
 use Rattle.orm.specs.Constraints.{grouped, K5, K6, K9}
+use Rattle.orm.specs.Laws.Cells.{rowsOf-length}
 use Rattle.orm.specs.Laws.Select.{of-select, select-no-repeats}
 use Rattle.buffer.specs.Written.{Wrote}
 use Rattle.buffer.specs.Laws.{wrote-then, wrote-end, wrote-front}
@@ -27,19 +28,12 @@ use Rattle.columns.specs.declared.Rows.{Rows}
 use Rattle.columns.specs.Values.{keysOf, keysIn, occurring}
 use Rattle.columns.specs.Differ.{rowsHeld, rows-differ}
 use Rattle.columns.specs.Reach.{Keyed, rows-keyed}
-use Rattle.order.specs.Parts.{Scratch}
-use Rattle.runs.specs.Runs.{rowsOf-length}
 use Rattle.blocks.specs.Blocks.{predWidth}
 use Rattle.blocks.specs.Places.{RowsHere}
 use Rattle.blocks.specs.Standing.{PredHere, Standing, standing-here}
 use Rattle.playing.specs.Places.{predAt, rowsHere}
 use Rattle.rows.specs.declared.Group.{Group}
 use Rattle.rows.specs.Tests.{PredRows, GroupHere, groupTest, groupKept, groupsTest}
-
--- Scratch that was written to is scratch
-pub scratch-still : (list spare : List ℕ) {list′ spare′ : List ℕ} → Scratch list spare → length list′ ≡ length list → length spare′ ≡ length spare
-    → Scratch list′ spare′
-scratch-still list spare s p q = record { few = omega (arith, s .few); long = omega (arith, s .long) }
 
 -- ---- the columns of a group
 

@@ -20,13 +20,14 @@ use Rattle.sorting.specs.Runs.{runsFrom, runs, eachOccurs, runs-sorted}
 use Rattle.orm.specs.Form.{_to_, inRange}
 use Rattle.orm.specs.Population.{rowsOf}
 use Rattle.orm.specs.Laws.Decided.{inRange-decides}
+use Rattle.orm.specs.Laws.Cells.{rowsOf-length}
 use Rattle.columns.specs.declared.Rows.{Rows}
 use Rattle.columns.specs.Values.{keysOf, keysIn, occurring}
 use Rattle.columns.specs.Single.{occurs}
 use Rattle.columns.specs.Reach.{Keyed, front-keyed}
 use Rattle.order.specs.Rows.{keyOf, rowLess, rowOrder, row-weak}
 use Rattle.order.specs.Numbers.{Numbers}
-use Rattle.runs.specs.Runs.{runsOf, Run, Ready, rowsOf-length}
+use Rattle.runs.specs.Runs.{runsOf, Run, Ready}
 
 -- ---- one run, and all
 

@@ -1,12 +1,11 @@
 -- Runs of rows with equal keys, and lists of row numbers in order.
-use Prim.Native.Nat.{ℕ, zero, suc, _-_, _≤_}
-use mathlib.Core.Path.{_≡_, refl, ap}
+use Prim.Native.Nat.{ℕ, _-_, _≤_}
+use mathlib.Core.Path.{_≡_}
 use mathlib.Core.Bool.{Bool, true, false, _&&_}
 use mathlib.Core.List.{List, map}
 use lib.ListN.{length, take, drop}
 use Rattle.counting.specs.Lists.{same}
 use Rattle.sorting.specs.Runs.{runs}
-use Rattle.orm.specs.Population.{rowsOf}
 use Rattle.columns.specs.declared.Rows.{Rows}
 use Rattle.columns.specs.Reach.{Keyed}
 use Rattle.order.specs.Rows.{keyOf, rowLess, rowOrder}
@@ -26,8 +25,3 @@ pub record Ready (s : List ℕ) (rows : Rows) (js list : List ℕ) (compared : B
   pub keyed : Keyed s rows js
   pub order : compared ≡ false → (rows .count ≤ length list) × (take (rows .count) list ≡ rowOrder s rows by (rows .count))
   pub finer : (x y : ℕ) → rowLess s rows js x y ≡ true → rowLess s rows by x y ≡ true
-
-pub rowsOf-length : (n w : ℕ) (s : List ℕ) → length (rowsOf n w s) ≡ n
-unfolding rowsOf
-rowsOf-length zero w s = refl
-rowsOf-length (suc n) w s = ap suc (rowsOf-length n w (drop w s))

@@ -14,6 +14,7 @@ use Rattle.orm.specs.WellFormed.{TypeForm}
 use Rattle.faults.specs.Faults.{Fault, lowered, faultsOf}
 use Rattle.faults.specs.Laws.Lowest.{lowered-then}
 use Rattle.table.specs.Positions.{typeCount, diagramOf}
+use Rattle.order.specs.Parts.{scratch-still}
 use Rattle.blocks.specs.Blocks.{contents, typeWidth, membersAt, populationAt}
 use Rattle.blocks.specs.Starts.{Populated, Located, type-block}
 use Rattle.playing.specs.Places.{populationOf}
@@ -70,8 +71,5 @@ module _ (of : ℕ → ObjectType → List ℕ → List Fault) (t s starts e₀ 
 
 -- scratch as long as at first
 pub still-room : (s list₀ spare₀ list spare : List ℕ) → Room s list₀ spare₀ → length list ≡ length list₀ → length spare ≡ length spare₀ → Room s list spare
-still-room s list₀ spare₀ list spare r m n = record {
-  scratch = record { few = omega (arith, r .scratch .few); long = omega (arith, r .scratch .long) };
-  even = omega (arith, r .even);
-  enough = omega (arith, r .enough);
-}
+still-room s list₀ spare₀ list spare r m n =
+    record { scratch = scratch-still list₀ spare₀ (r .scratch) m n; even = omega (arith, r .even); enough = omega (arith, r .enough) }

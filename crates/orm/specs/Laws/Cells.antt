@@ -18,7 +18,7 @@ use Rattle.orm.specs.Calls.{diagramIn, populationIn, validateCall}
 use Rattle.orm.specs.Laws.Shape.{block-read, cells-cut, cut-shaped}
 use Rattle.orm.specs.Laws.Decided.{valid-iff-meets}
 
-rowsOf-length : (k w : ℕ) (s : List ℕ) → length (rowsOf k w s) ≡ k
+pub rowsOf-length : (k w : ℕ) (s : List ℕ) → length (rowsOf k w s) ≡ k
 unfolding rowsOf
 rowsOf-length zero w s = refl
 rowsOf-length (suc k) w s = ap suc (rowsOf-length k w (drop w s))

@@ -2,7 +2,8 @@
 -- Assumes nothing.
 use mathlib.Core.Path.{_≡_}
 use lib.ListN.{length}
-use Rattle.rows.proofs.Groups.{scratch-still, GroupsLeft, groups-none, groups-not, groups-more, k9-none, k9-not, k9-rest}
+use Rattle.order.specs.Parts.{scratch-still}
+use Rattle.rows.proofs.Groups.{GroupsLeft, groups-none, groups-not, groups-more, k9-none, k9-not, k9-rest}
 use borrow.Author.Needs.{needs}
 use Rattle.rows.proofs.groups_keep.Statement.{statement}
 use Rattle.rows.proofs.groups_keep.Tie as tie

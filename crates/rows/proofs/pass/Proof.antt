@@ -3,7 +3,8 @@
 use mathlib.Core.Path.{_≡_}
 use lib.ListN.{length}
 use Rattle.blocks.specs.Standing.{standing-inside}
-use Rattle.rows.proofs.Groups.{scratch-still, pred-rows}
+use Rattle.order.specs.Parts.{scratch-still}
+use Rattle.rows.proofs.Groups.{pred-rows}
 use Rattle.rows.proofs.Passing.{Noting, noting-start, noting-more, noting-end}
 use borrow.Author.Needs.{needs}
 use Rattle.rows.proofs.pass.Statement.{statement}

@@ -1,6 +1,7 @@
 -- `rows::tests` meets its contract. The size is tested by itself, the rest by orders of the rows.
 -- Assumes nothing.
-use Rattle.rows.proofs.Groups.{scratch-still, k6-is}
+use Rattle.order.specs.Parts.{scratch-still}
+use Rattle.rows.proofs.Groups.{k6-is}
 use borrow.Author.Needs.{needs}
 use Rattle.rows.proofs.tests.Statement.{statement}
 use Rattle.rows.proofs.tests.Tie as tie

@@ -12,6 +12,7 @@ mod program;
 mod sizes;
 mod text;
 
+pub mod large;
 pub mod random;
 
 #[cfg(feature = "compare")]

@@ -305,7 +305,7 @@ fn ring(random: &mut Random) -> Diagram {
 }
 
 /// The index of the root of a type.
-fn root(d: &Diagram, mut kind: usize) -> usize {
+pub fn root(d: &Diagram, mut kind: usize) -> usize {
     while d.types[kind].over != 0 {
         kind = d.types[kind].over as usize - 1;
     }
@@ -313,7 +313,7 @@ fn root(d: &Diagram, mut kind: usize) -> usize {
 }
 
 /// The LAST of the nearest type above a subtype that gives one.
-fn nearest_last(d: &Diagram, subtype: usize) -> u32 {
+pub fn nearest_last(d: &Diagram, subtype: usize) -> u32 {
     let over = d.types[subtype].over as usize - 1;
     match d.types[over].range() {
         Some((_, last)) => last,
@@ -921,9 +921,9 @@ pub fn damaged_table(random: &mut Random) -> Vec<u32> {
 }
 
 /// Cells taken apart: the values of each type, the rows of each predicate.
-struct Parts {
-    types: Vec<Vec<u32>>,
-    preds: Vec<Vec<Vec<u32>>>,
+pub struct Parts {
+    pub types: Vec<Vec<u32>>,
+    pub preds: Vec<Vec<Vec<u32>>>,
 }
 
 impl Parts {
@@ -961,7 +961,7 @@ impl Parts {
         self.preds.iter_mut().for_each(|v| random.shuffle(v));
     }
 
-    fn cells(&self) -> Vec<u32> {
+    pub fn cells(&self) -> Vec<u32> {
         let mut cells = Vec::new();
         for values in &self.types {
             cells.push(values.len() as u32);

@@ -1,6 +1,7 @@
 //! Compares the reference with the C library on random inputs: `compare SEED
 //! COUNT`, or `compare SEED COUNT trace`, which prints each input before its
-//! call, in case the library does not come back.
+//! call, in case the library does not come back. `compare --large SEED COUNT`
+//! compares validating alone, on populations of up to some 4,700 members or rows.
 //!
 //! Build, with the archive `libcapi.a` in the folder DIR (touching the file
 //! makes a changed archive be linked anew):
@@ -19,6 +20,7 @@
 //! and of those left each fourth of the calls for single limits.
 
 use reference::foreign::{self, Answer};
+use reference::large;
 use reference::random::{self, Random};
 use reference::{check, floors, form, found, limits, settle, starting};
 use reference::{Average, Diagram, Lowered, Refusal, Settled, Survey, Verdict};
@@ -235,16 +237,31 @@ impl Compare {
         if random.chance(5) {
             table = random::damaged_table(random);
         }
-        if self.trace {
-            let (table, cells) = (u32::show(&table), u32::show(&cells));
-            println!("validate, {}: {table} {cells}", self.place);
+        self.validate_of("validate", &table, &cells);
+    }
+
+    /// A population of many members or rows.
+    fn large(&mut self, random: &mut Random) {
+        let (table, cells) = large::input(random);
+        let answer = self.validate_of("large", &table, &cells);
+        if let [0, _, constraint, 2..=32] = answer {
+            let outcome = format!("broken K{constraint}, not the first");
+            self.count("large", &outcome);
         }
-        let ours = verdict(reference::validate(&table, &cells));
-        let theirs = foreign::validate(&table, &cells);
+    }
+
+    /// The verdict on cells, on which both agree.
+    fn validate_of(&mut self, name: &'static str, table: &[u32], cells: &[u32]) -> Answer {
+        if self.trace {
+            let (table, cells) = (u32::show(table), u32::show(cells));
+            println!("{name}, {}: {table} {cells}", self.place);
+        }
+        let ours = verdict(reference::validate(table, cells));
+        let theirs = foreign::validate(table, cells);
         if ours != theirs {
-            println!("difference in validate, {}", self.place);
-            println!("table     {}", u32::show(&table));
-            println!("cells     {}", u32::show(&cells));
+            println!("difference in {name}, {}", self.place);
+            println!("table     {}", u32::show(table));
+            println!("cells     {}", u32::show(cells));
             println!("reference {ours:?}");
             println!("library   {theirs:?}");
             std::process::exit(1);
@@ -254,7 +271,8 @@ impl Compare {
             [0, _, constraint, _] => format!("broken K{constraint}"),
             [number, ..] => format!("refused {number}"),
         };
-        *self.outcomes.entry(("validate", outcome)).or_default() += 1;
+        self.count(name, &outcome);
+        ours
     }
 
     fn start(&mut self, random: &mut Random) {
@@ -715,44 +733,56 @@ fn nth(seed: u64, i: u64) -> Random {
     Random::new(Random::new(seed).bits() ^ Random::new(i).bits())
 }
 
+/// The input with this number, of any call.
+fn mixed(compare: &mut Compare, seed: u64, i: u64) {
+    // Each seventh is about the table's edge, of the others each sixth of an
+    // average use, of the rest each fifth of a prescribed size, of those left
+    // each fourth of single limits; each kind counts its own alone.
+    let other = i / 7 * 6 + i % 7;
+    let rest = other / 6 * 5 + other % 6;
+    let left = rest / 5 * 4 + rest % 5;
+    match (i % 7, other % 6, rest % 5, left % 4) {
+        (6, ..) => compare.edge(&mut nth(seed ^ 1 << 61, i / 7)),
+        (_, 5, ..) => compare.average(&mut nth(seed ^ 1 << 62, other / 6)),
+        (_, _, 4, _) => compare.prescribe(&mut nth(seed ^ 1 << 63, rest / 5)),
+        (_, _, _, 3) => compare.limit_input(&mut nth(!seed, left / 4)),
+        (_, _, _, own) => compare.input(&mut nth(seed, left / 4 * 3 + own)),
+    }
+}
+
 fn main() {
-    let mut arguments = std::env::args()
-        .skip(1)
-        .take(2)
-        .map(|word| word.parse::<u64>());
+    let mut words: Vec<String> = std::env::args().skip(1).collect();
+    let large = words.first().is_some_and(|word| word == "--large");
+    words.drain(..usize::from(large));
+    let mut arguments = words.iter().take(2).map(|word| word.parse::<u64>());
     let (Some(Ok(seed)), Some(Ok(count))) = (arguments.next(), arguments.next()) else {
-        println!("compare SEED COUNT");
+        println!("compare [--large] SEED COUNT");
         std::process::exit(2);
     };
     let mut compare = Compare {
         outcomes: BTreeMap::new(),
         places: Default::default(),
         place: String::new(),
-        trace: std::env::args().nth(3).is_some_and(|word| word == "trace"),
+        trace: words.get(2).is_some_and(|word| word == "trace"),
     };
     let start = Instant::now();
     for i in 0..count {
         compare.place = format!("seed {seed}, input {i}");
-        // Each seventh is about the table's edge, of the others each sixth of an
-        // average use, of the rest each fifth of a prescribed size, of those left
-        // each fourth of single limits; each kind counts its own alone.
-        let other = i / 7 * 6 + i % 7;
-        let rest = other / 6 * 5 + other % 6;
-        let left = rest / 5 * 4 + rest % 5;
-        match (i % 7, other % 6, rest % 5, left % 4) {
-            (6, ..) => compare.edge(&mut nth(seed ^ 1 << 61, i / 7)),
-            (_, 5, ..) => compare.average(&mut nth(seed ^ 1 << 62, other / 6)),
-            (_, _, 4, _) => compare.prescribe(&mut nth(seed ^ 1 << 63, rest / 5)),
-            (_, _, _, 3) => compare.limit_input(&mut nth(!seed, left / 4)),
-            (_, _, _, own) => compare.input(&mut nth(seed, left / 4 * 3 + own)),
+        match large {
+            true => compare.large(&mut nth(seed ^ 1 << 60, i)),
+            false => mixed(&mut compare, seed, i),
         }
     }
     let rate = count as f64 / start.elapsed().as_secs_f64();
     for ((call, outcome), cases) in &compare.outcomes {
         println!("{call} {outcome}: {cases}");
     }
-    let [asked, shifted, whole] = compare.places.map(|places| places.len());
-    println!("places of the table: {asked} asked, {shifted} with a shift, {whole} with all rows");
+    if !large {
+        let [asked, shifted, whole] = compare.places.map(|places| places.len());
+        println!(
+            "places of the table: {asked} asked, {shifted} with a shift, {whole} with all rows"
+        );
+    }
     println!("{rate:.0} cases per second");
     println!("{count} inputs, 0 differences");
 }

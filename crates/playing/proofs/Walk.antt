@@ -61,7 +61,8 @@ module _ (x : Played) (number own k : ℕ) (ws ms e : List ℕ) {v : ℕ} (q : v
       let z : eqb (x .role .type) number ≡ false = rw (← q) (ne-eqb v number n) in
       heard ms e (rw (roleFaults, z)) (λ us. rw (valuesInRoles, z)) (fresh-later (k + 1) f (omega arith))
 
-  pub role-own : (met : Met) {ms′ e′ : List ℕ} → Fresh ws ms k → Looked ws ms k (x .values) ms′ met → v ≡ number → e′ ≡ lowered (toldBy (x .role) met (length ws) own) e
+  pub role-own : (met : Met) {ms′ e′ : List ℕ} → Fresh ws ms k → Looked ws ms k (x .values) ms′ met → v ≡ number
+      → e′ ≡ lowered (toldBy (x .role) met (length ws) own) e
       → Heard number ws own (x ∷ []) ms e ms′ e′ (k + 1)
   unfolding roleFaults valuesInRoles given belongs limited fills toldBy
   role-own met {ms′} {e′} f l p n =

@@ -92,7 +92,8 @@ module _ (t : List ℕ) (line : ℕ) (ws : List ℕ) {ranged : Bool} (q : ranged
   unfolding K3 all
   range-empty e = go ws e (hasRange (typeOf (drop line t)))
     where
-      go : (l : List ℕ) → length l ≡ 0 → (b : Bool) → true ≡ elim b [ true ↦ all (inRange (typeOf (drop line t) .first to typeOf (drop line t) .last)) l | false ↦ true ]
+      go : (l : List ℕ) → length l ≡ 0 → (b : Bool)
+          → true ≡ elim b [ true ↦ all (inRange (typeOf (drop line t) .first to typeOf (drop line t) .last)) l | false ↦ true ]
       go [] e true = refl
       go [] e false = refl
       go (x ∷ l) e b = absurd (omega arith)

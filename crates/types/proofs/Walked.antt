@@ -50,7 +50,8 @@ module _ (of : ℕ → ObjectType → List ℕ → List Fault) (t s starts e₀ 
   left-start = record { rest = refl }
 
   module _ (e : List ℕ) (i : ℕ) (x : Left of t s e₀ e i) where
-    pub left-more : {e′ : List ℕ} {m : ℕ} (line at n : ℕ) → Located t s starts → i < m → m ≡ typeCount t → e′ ≡ lowered (of n (typeOf (drop line t)) (membersAt (drop at s))) e
+    pub left-more : {e′ : List ℕ} {m : ℕ} (line at n : ℕ) → Located t s starts → i < m → m ≡ typeCount t
+        → e′ ≡ lowered (of n (typeOf (drop line t)) (membersAt (drop at s))) e
         → line ≡ 2 + 6 * i → at ≡ getD starts i 0 → n ≡ i + 1 → Left of t s e₀ e′ (i + 1)
     unfolding faultsOf populationAt
     left-more line at n l h c f p q r =

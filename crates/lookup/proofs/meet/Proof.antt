@@ -7,7 +7,9 @@ use Rattle.lookup.proofs.meet.Statement.{statement}
 use Rattle.lookup.proofs.meet.Tie as tie
 
 abbrev Inv-loop : tie.InvT-loop
-Inv-loop cells values list marks₀ stamp left₀ met₀ marks left met = (met .count + left ≤ values .count) × Meeting cells values list marks₀ stamp marks left met
+Inv-loop cells values list marks₀ stamp left₀ met₀ marks left met =
+    (met .count + left ≤ values .count)
+    × Meeting cells values list marks₀ stamp marks left met
 
 abbrev μ-loop : tie.MeasureT-loop
 μ-loop cells values list marks₀ stamp left₀ met₀ marks left met = left

@@ -8,7 +8,10 @@ use Rattle.playing.proofs.preds_pass.Statement.{statement}
 use Rattle.playing.proofs.preds_pass.Tie as tie
 
 abbrev Inv-loop : tie.InvT-loop
-Inv-loop t cells starts number list marks₀ lowest₀ pred₀ k₀ own₀ left₀ marks lowest pred k own left = (own + k + 2 * left ≤ 97) × Standing t cells starts pred k left × PredsLeft t cells starts number list marks₀ lowest₀ marks lowest pred k own left
+Inv-loop t cells starts number list marks₀ lowest₀ pred₀ k₀ own₀ left₀ marks lowest pred k own left =
+    (own + k + 2 * left ≤ 97)
+    × Standing t cells starts pred k left
+    × PredsLeft t cells starts number list marks₀ lowest₀ marks lowest pred k own left
 
 abbrev μ-loop : tie.MeasureT-loop
 μ-loop t cells starts number list marks₀ lowest₀ pred₀ k₀ own₀ left₀ marks lowest pred k own left = left

@@ -11,7 +11,11 @@ use Rattle.playing.proofs.roles_pass.Statement.{statement}
 use Rattle.playing.proofs.roles_pass.Tie as tie
 
 abbrev Inv-loop : tie.InvT-loop
-Inv-loop t cells number own pred at list marks₀ lowest₀ w role₀ stamp₀ j₀ marks lowest role stamp j = (role + roleWidth * (w - j) ≤ length t) × (stamp ≡ 8 * own + j) × (j ≤ w) × RolesLeft t cells number own pred at list marks₀ lowest₀ w marks lowest role j stamp
+Inv-loop t cells number own pred at list marks₀ lowest₀ w role₀ stamp₀ j₀ marks lowest role stamp j =
+    (role + roleWidth * (w - j) ≤ length t)
+    × (stamp ≡ 8 * own + j)
+    × (j ≤ w)
+    × RolesLeft t cells number own pred at list marks₀ lowest₀ w marks lowest role j stamp
 
 abbrev μ-loop : tie.MeasureT-loop
 μ-loop t cells number own pred at list marks₀ lowest₀ w role₀ stamp₀ j₀ marks lowest role stamp j = w - j

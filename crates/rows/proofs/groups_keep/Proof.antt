@@ -9,7 +9,10 @@ use Rattle.rows.proofs.groups_keep.Statement.{statement}
 use Rattle.rows.proofs.groups_keep.Tie as tie
 
 abbrev Inv-loop : tie.InvT-loop
-Inv-loop t cells rows pred first list₀ spare₀ count line₀ g₀ left₀ list spare line g left = (length list ≡ length list₀) × (length spare ≡ length spare₀) × GroupsLeft t cells pred rows line g left
+Inv-loop t cells rows pred first list₀ spare₀ count line₀ g₀ left₀ list spare line g left =
+    (length list ≡ length list₀)
+    × (length spare ≡ length spare₀)
+    × GroupsLeft t cells pred rows line g left
 
 abbrev μ-loop : tie.MeasureT-loop
 μ-loop t cells rows pred first list₀ spare₀ count line₀ g₀ left₀ list spare line g left = left

@@ -11,7 +11,10 @@ use Rattle.rows.proofs.pass.Statement.{statement}
 use Rattle.rows.proofs.pass.Tie as tie
 
 abbrev Inv-loop : tie.InvT-loop
-Inv-loop t cells starts list₀ spare₀ lowest₀ pred₀ k₀ own₀ left₀ list spare lowest pred k own left = (length list ≡ length list₀) × (length spare ≡ length spare₀) × Noting t cells starts lowest₀ lowest pred k own left
+Inv-loop t cells starts list₀ spare₀ lowest₀ pred₀ k₀ own₀ left₀ list spare lowest pred k own left =
+    (length list ≡ length list₀)
+    × (length spare ≡ length spare₀)
+    × Noting t cells starts lowest₀ lowest pred k own left
 
 abbrev μ-loop : tie.MeasureT-loop
 μ-loop t cells starts list₀ spare₀ lowest₀ pred₀ k₀ own₀ left₀ list spare lowest pred k own left = left

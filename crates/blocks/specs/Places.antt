@@ -14,15 +14,25 @@ use Rattle.columns.specs.declared.Column.{Column}
 use Rattle.columns.specs.declared.Rows.{Rows}
 use Rattle.columns.specs.Values.{spaced}
 use Rattle.columns.specs.Reach.{Reached}
-use Rattle.blocks.specs.Blocks.{membersAt, rowsAt, predWidth}
+use Rattle.blocks.specs.Blocks.{membersAt, rowsAt, predWidth, mostCells}
 
 -- ---- the end of a block
 
 pub end-is : (at w m : ℕ) {v i : ℕ} → v ≡ m → i ≡ v → at + 1 + i * w ≡ at + suc (m * w)
 end-is at w m e f = rw (f, e) (omega arith)
 
-pub size-small : {k w : ℕ} → k < 4294967296 → w ≤ 999999 → k * w < 4294967295 * 1000000
-size-small {k} {w} h g = let l : k ≤ 4294967295 = omega arith in omega (arith, mul-le-mul l g)
+module _ {i w : ℕ} (h : i < 4294967296) (g : w ≤ 999999) where
+  size-small : i * w ≤ 4294967295 * 999999
+  size-small = let l : i ≤ 4294967295 = omega arith in mul-le-mul l g
+
+  pub size-fits : i * w < 18446744073709551616
+  size-fits = omega (arith, size-small)
+
+  pub end-near : (at : ℕ) → at + 1 + i * w ≤ at + mostCells
+  end-near at = omega (arith, size-small)
+
+  pub end-fits : (at : ℕ) → at ≤ 64 * mostCells → at + 1 + i * w < 18446744073709551616
+  end-fits at l = omega (arith, size-small)
 
 -- ---- members
 

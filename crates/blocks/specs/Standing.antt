@@ -10,12 +10,12 @@ use Rattle.orm.specs.Diagram.{Predicate}
 use Rattle.orm.specs.Meaning.{Rows}
 use Rattle.orm.specs.Laws.Cells.{population-in-iff}
 use Rattle.table.specs.Positions.{predOf, predLength, predsIn, typeCount, predCount, firstPredAt, diagramOf}
-use Rattle.table.specs.Laws.Walks.{preds-more, ahead-here}
+use Rattle.table.specs.Laws.Walks.{preds-more}
 use Rattle.table.specs.Laws.Valid.{valid-walkable}
 use Rattle.columns.specs.declared.Column.{Column}
 use Rattle.columns.specs.Reach.{Reached, wide-room}
 use Rattle.blocks.specs.Blocks.{blockLength, contents, predWidth, rowsAt, rowsIn, populationAt}
-use Rattle.blocks.specs.Starts.{Populated, Located, Pending, pending-start, pending-wide, pending-more, block-next, starts-preds}
+use Rattle.blocks.specs.Starts.{Populated, Located, Pending, pending-start, pending-here, pending-wide, pending-more, block-next, starts-preds}
 use Rattle.blocks.specs.Places.{ColumnHere}
 
 -- The predicate at `pred` of the table is there and has few roles, and its rows at `at` of the cells have a cell for each
@@ -45,7 +45,7 @@ column-reached t s pred at c {w} here e h =
 
 module _ (t s starts : List ℕ) (pred k n : ℕ) (st : Standing t s starts pred k n) (h : 0 < n) where
   pub standing-inside : pred + predLength (drop pred t) ≤ length t
-  standing-inside = ahead-here t pred n (st .pending .ahead) h
+  standing-inside = pending-here (st .pending) h
 
   pub standing-here : {at : ℕ} → at ≡ getD starts k 0 → PredHere t s pred at
   unfolding contents
@@ -83,7 +83,7 @@ standing-start t s starts pred k n j l e g q r =
     let formed = j .valid .formed .preds in
     record {
       located = l;
-      pending = pending-start t pred k n 0 (valid-walkable (j .valid)) e g (omega arith) (omega arith);
+      pending = pending-start t pred k n (valid-walkable (j .valid)) e g q r;
       few = rw (e, g) (λ p m. formed p m .arity .1);
       wide = rw (e, g, f, starts-preds l) (shaped .preds);
     }

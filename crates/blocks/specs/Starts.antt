@@ -15,7 +15,7 @@ use Rattle.orm.specs.Calls.{populationIn}
 use Rattle.table.specs.Positions.{predOf, predLength, predsIn, typeCount, predCount, firstPredAt, diagramOf, Walkable}
 use Rattle.table.specs.Cursors.{Ahead}
 use Rattle.table.specs.Valid.{Valid}
-use Rattle.table.specs.Laws.Walks.{each-length, preds-length, preds-more, preds-none, ahead-start, ahead-more}
+use Rattle.table.specs.Laws.Walks.{each-length, preds-length, preds-more, preds-none, ahead-start, ahead-here, ahead-more}
 use Rattle.blocks.specs.declared.Extent.{Extent}
 use Rattle.blocks.specs.declared.Extent.the-variants.{Whole}
 use Rattle.blocks.specs.Blocks.{blockLength, mostCells, membersAt, rowsAt, endOf, contents, typeWidth, predWidth, behindTypes, populationAt}
@@ -62,10 +62,9 @@ pub record Pending (t : List ℕ) (pred k n : ℕ) : Type 0 where
   pub ahead : Ahead t pred n
   pub widths : drop k (widthsIn t) ≡ map predWidth (predsIn n (drop pred t))
 
-pub pending-start : (t : List ℕ) (pred k n left : ℕ) → Walkable t → pred ≡ firstPredAt t → n ≡ predCount t → k + left ≡ typeCount t → left ≤ 0
-    → Pending t pred k n
+pub pending-start : (t : List ℕ) (pred k n : ℕ) {m : ℕ} → Walkable t → pred ≡ firstPredAt t → n ≡ predCount t → m ≡ typeCount t → k ≡ m → Pending t pred k n
 unfolding blockWidths diagramOf
-pending-start t pred k n left w e g f h =
+pending-start t pred k n w e g f h =
     let long : length (map typeWidth (diagramOf t .types)) ≡ k = rw length-map (omega (arith, types-count t)) in
     let behind : drop k (widthsIn t) ≡ map predWidth (diagramOf t .preds) = drop-at (map typeWidth (diagramOf t .types)) _ k long in
     record { ahead = ahead-start t w e g; widths = rw (e, g) behind }
@@ -75,6 +74,9 @@ module _ {t : List ℕ} {pred k n : ℕ} (p : Pending t pred k n) (h : 0 < n) wh
   widths-here : (next : ℕ) → next ≡ pred + predLength (drop pred t)
       → drop k (widthsIn t) ≡ predWidth (predOf (drop pred t)) ∷ map predWidth (predsIn (n - 1) (drop next t))
   widths-here next q = p .widths ∙ ap (map predWidth) (preds-more t pred n h q)
+
+  pub pending-here : pred + predLength (drop pred t) ≤ length t
+  pending-here = ahead-here t pred n (p .ahead) h
 
   pub pending-wide : {w : ℕ} → w ≡ predWidth (predOf (drop pred t)) → At w (widthsIn t) k
   pending-wide e =
@@ -114,17 +116,30 @@ module _ {t s starts₀ : List ℕ} {k₀ at₀ : ℕ} {starts : List ℕ} {k at
         rest = rw (q, add-one k) (rw (here, add-one) at (i .rest));
       }
 
+  -- those of all types
+  pub walk-types : (left : ℕ) → k + left ≡ typeCount t → left ≤ 0 → Walk t s starts₀ k₀ at₀ starts (typeCount t) at
+  walk-types left e h = let q : typeCount t ≡ k = omega arith in rw q i
+
+  -- another walk, from there
+  pub walk-on : {m n : ℕ} → m ≡ k → n ≡ m → Walk t s starts k at starts n at
+  walk-on e f = rw (f, e) (walk-start t s starts k at (i .long) (i .near))
+
 -- the types' blocks and then the predicates', of which none is left
-module _ {t s starts₀ starts₁ starts : List ℕ} {k₁ at₁ k at pred n : ℕ} (p : Pending t pred k n) (h : n ≤ 0)
-    (i : Walk t s starts₀ 0 0 starts₁ k₁ at₁) (j : Walk t s starts₁ k₁ at₁ starts k at) where
-  pub all-written : (at ≡ endOf s (widthsIn t) 0) × (set starts k at ≡ sets starts₀ 0 (startsOf s (widthsIn t) 0))
-  unfolding endOf startsOf
-  all-written =
-      let none : drop k (widthsIn t) ≡ [] = p .widths ∙ rw (preds-none n (drop pred t) h) in
-      ((rw none at (j .end)) ∙ i .end, (rw none at (j .rest)) ∙ i .rest)
+module _ {t s starts₀ starts₁ starts : List ℕ} {at₁ k at pred n : ℕ} (p : Pending t pred k n) (h : n ≤ 0)
+    (j : Walk t s starts₁ (typeCount t) at₁ starts k at) (i : Walk t s starts₀ 0 0 starts₁ (typeCount t) at₁) where
+  none : drop k (widthsIn t) ≡ []
+  none = p .widths ∙ rw (preds-none n (drop pred t) h)
+
+  pub all-ended : at ≡ endOf s (widthsIn t) 0
+  unfolding endOf
+  all-ended = (rw none at (j .end)) ∙ i .end
+
+  pub all-written : set starts k at ≡ sets starts₀ 0 (startsOf s (widthsIn t) 0)
+  unfolding startsOf
+  all-written = (rw none at (j .rest)) ∙ i .rest
 
   pub all-long : length (set starts k at) ≡ length starts₀
-  all-long = ap length (all-written .1) ∙ length-sets starts₀ 0 (startsOf s (widthsIn t) 0)
+  all-long = ap length all-written ∙ length-sets starts₀ 0 (startsOf s (widthsIn t) 0)
 
 -- ---- cells that are cut
 

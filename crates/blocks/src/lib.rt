@@ -7,11 +7,12 @@ ghost use lib.ListN.{length, getD, drop, replicate};
 ghost use lib.Seq.{sets};
 ghost use Rattle.counting.specs.Lists.{column};
 ghost use Rattle.orm.specs.Calls.{populationIn};
-ghost use Rattle.table.specs.Positions.{diagramOf, predOf, Walkable};
+ghost use Rattle.table.specs.Positions.{typeCount, diagramOf, predOf, Walkable};
 ghost use Rattle.columns.specs.Values.{valuesIn};
 ghost use Rattle.columns.specs.Reach.{Reached};
 ghost use Rattle.blocks.specs.Blocks.{blockLength, mostCells, membersAt, rowsAt, populationAt, predWidth, endOf, blockWidths, startsOf, extentOf};
 ghost use Rattle.blocks.specs.Places.{RowsHere, ColumnHere};
+ghost use Rattle.blocks.specs.Starts.{Walk};
 
 // Whether cells are a population's, or where they end early or run on.
 pub enum Extent {
@@ -36,6 +37,24 @@ pub fn scratch() -> [usize; 65]
     [0; 65]
 }
 
+// Writes where each type's block starts; where the last ends.
+fn types_end(t: &[u32], cells: &[u32], starts: &mut [usize]) -> usize
+    requires { ⌜ Walkable (now t) ⌝ }
+    requires { ⌜ length (now starts) ≡ 65 ⌝ }
+    ensures { λ r. ⌜ Walk (now (t .entry)) (now (cells .entry)) (now (starts .entry)) 0 0 (now (starts .exit)) (typeCount (now (t .entry))) r ⌝ }
+{
+    let mut left = table::type_count(t);
+    let mut at = 0;
+    let mut k: usize = 0;
+    while 0 < left {
+        starts[k] = at;
+        at = block_end(cells, at, 1);
+        k += 1;
+        left -= 1;
+    }
+    at
+}
+
 // Writes where each block starts, the types' and then the predicates', and the end, which is returned.
 fn end_of_blocks(t: &[u32], cells: &[u32], starts: &mut [usize]) -> usize
     requires { ⌜ Walkable (now t) ⌝ }
@@ -43,23 +62,16 @@ fn end_of_blocks(t: &[u32], cells: &[u32], starts: &mut [usize]) -> usize
     ensures { λ r. ⌜ r ≡ endOf (now (cells .entry)) (blockWidths (diagramOf (now (t .entry)))) 0 ⌝ }
     ensures { λ _. ⌜ now (starts .exit) ≡ sets (now (starts .entry)) 0 (startsOf (now (cells .entry)) (blockWidths (diagramOf (now (t .entry)))) 0) ⌝ }
 {
+    let mut at = types_end(t, cells, starts);
     let mut pred = table::first_pred(t);
-    let mut preds = table::pred_count(t);
-    let mut types = table::type_count(t);
-    let mut at = 0;
-    let mut k: usize = 0;
-    while 0 < types {
-        starts[k] = at;
-        at = block_end(cells, at, 1);
-        k += 1;
-        types -= 1;
-    }
-    while 0 < preds {
+    let mut left = table::pred_count(t);
+    let mut k = columns::index(table::type_count(t));
+    while 0 < left {
         starts[k] = at;
         at = block_end(cells, at, width(t, pred));
         pred = table::next_pred(t, pred);
         k += 1;
-        preds -= 1;
+        left -= 1;
     }
     starts[k] = at;
     at

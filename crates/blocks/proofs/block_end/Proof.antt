@@ -1,7 +1,6 @@
 -- `blocks::block_end` meets its contract. The size cell and its entries, which stay few.
 -- Assumes nothing.
-use native.Mathlib.Omega.{arith}
-use Rattle.blocks.specs.Places.{end-is, size-small}
+use Rattle.blocks.specs.Places.{end-is, size-fits, end-fits, end-near}
 use borrow.Author.Needs.{needs}
 use Rattle.blocks.proofs.block_end.Statement.{statement}
 use Rattle.blocks.proofs.block_end.Tie as tie
@@ -13,6 +12,6 @@ block-end-spec =
     (λ c. search needs)
     (λ c κs. search needs)
     (λ c κs. search needs)
-    (λ c. record { fits = omega (arith, size-small (c .index .ensures .1) (c .before .before .before .pre .0)) })
-    (λ c. record { fits = omega (arith, size-small (c .index .ensures .1) (c .before .before .before .pre .0)) })
-    (λ c. (search (needs, end-is), omega (arith, size-small (c .index .ensures .1) (c .before .before .before .pre .0)))))
+    (λ c. search (needs, size-fits))
+    (λ c. search (needs, end-fits))
+    (λ c. (search (needs, end-is), search (needs, end-near))))

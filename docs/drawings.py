@@ -76,6 +76,7 @@ def groups_of_crates():
             found.append((re.split("[,;:.]", line[1:].strip())[0], {}))
         elif line:
             name, below = line.split(":")
+            name = name.split()[0]  # without the kind of library
             found[-1][1][name] = below.split()
     return found
 

@@ -1,9 +1,10 @@
--- What all, member, within, allDiffer, occurrences and distinct say of a list's members.
+-- What all, member, within, all_differ, occurrences and distinct say of a list's members.
 use Prim.Native.Nat.{ℕ, suc, ◌+◌, ◌≤◌, ◌<◌, zero-le, suc-le-suc}
 use Rattle.std.specs.Prelude.{◌≡◌, ◌↔◌, ◌⊎◌, Bool, not, ◌&&◌, ◌||◌}
 use Rattle.std.proofs.Math.Path.{refl, sym, ap}
 use Rattle.std.proofs.Common.{◌∙◌, inl, inr}
-use Rattle.std.proofs.Math.Logic.{Iff·trans, Iff·symm, Iff·and, Iff·not, eq_comm, ⊎_elim}
+use Rattle.std.proofs.Math.Logic.Iff
+use Rattle.std.proofs.Math.Logic.{eq_comm, ⊎_elim}
 use Rattle.std.proofs.Math.Bool.{true, false, or-true, or_assoc, false≢true, and-eq-true_iff}
 use mathlib.Mathlib.Data.Bool.Basic.{not_iff_not, Bool-iff_false}
 use mathlib.Core.List.Memᴰ
@@ -16,7 +17,7 @@ use Rattle.std.proofs.Math.ListN.{length}
 use Rattle.counting.specs.Totals.{bit}
 use Rattle.counting.specs.Distinct.{all, member, distinct, occurrences, all_differ, within}
 use Rattle.counting.specs.Terms.{Decides, ◌∈◌, ◌⊆◌, Each, NoRepeats}
-use Rattle.counting.specs.Laws.Members.{each_nil, each-cons, each-head, each_tail, cons_⊆}
+use Rattle.counting.proofs.Laws.Members.{each_nil, each-cons, each-head, each_tail, cons_⊆}
 
 -- `Reduces xs ds`: ds is xs with only the last occurrence of each element
 data Reduces {A : Type 0} : List A → List A → Type 0 where
@@ -66,8 +67,8 @@ pub all_decides : {A : Type 0} (p : A → Bool) {P : A → Type 0} → ((a : A) 
 unfolding all
 all_decides p {P} h [] = (λ e. each_nil P, λ f. refl)
 all_decides p {P} h (x ∷ xs) =
-    Iff·trans (and-eq-true_iff _ _)
-    (Iff·trans (Iff·and (h x) (all_decides p h xs)) (λ q. each-cons P q.0 q.1, λ f. (each-head P f, each_tail P f)))
+    Iff.trans (and-eq-true_iff _ _)
+    (Iff.trans (Iff.and (h x) (all_decides p h xs)) (λ q. each-cons P q.0 q.1, λ f. (each-head P f, each_tail P f)))
 
 -- an element that fails the test
 pub all-fails : {A : Type 0} (p : A → Bool) (xs : List A) → all p xs ≡ false → (x : A) × (x ∈ xs) × (p x ≡ false)
@@ -129,13 +130,13 @@ module _ {A : Type 0} {eq : A → A → Bool} (decides : Decides eq) where
   unfolding within
   within_decides [] ys = (λ e a m. absurd (Memᴰ.not-nil m), λ s. refl)
   within_decides (x ∷ xs) ys =
-      Iff·trans (and-eq-true_iff _ _) (Iff·trans (Iff·and (member_decides x ys) (within_decides xs ys)) (cons_⊆ x xs ys))
+      Iff.trans (and-eq-true_iff _ _) (Iff.trans (Iff.and (member_decides x ys) (within_decides xs ys)) (cons_⊆ x xs ys))
 
   pub all_differ_decides : (xs : List A) → all_differ eq xs ≡ true ↔ NoRepeats xs
   unfolding all_differ
   all_differ_decides [] = (λ e. tt, λ n. refl)
   all_differ_decides (x ∷ xs) =
-      Iff·trans (and-eq-true_iff _ _) (Iff·and (Iff·trans not_iff_not (Iff·not (member_decides x xs))) (all_differ_decides xs))
+      Iff.trans (and-eq-true_iff _ _) (Iff.and (Iff.trans not_iff_not (Iff.not (member_decides x xs))) (all_differ_decides xs))
 
   distinct_reduces : (xs : List A) → Reduces xs (distinct eq xs)
   unfolding distinct
@@ -172,7 +173,7 @@ module _ {A : Type 0} {eq : A → A → Bool} (decides : Decides eq) where
   length-distinct-iff xs = reduces_all (distinct_reduces xs)
 
   pub eq_sym : (a b : A) → eq a b ≡ eq b a
-  eq_sym a b = bool_ext _ _ (Iff·trans (decides.iff a b) (Iff·trans eq_comm (Iff·symm (decides.iff b a))))
+  eq_sym a b = bool_ext _ _ (Iff.trans (decides.iff a b) (Iff.trans eq_comm (Iff.symm (decides.iff b a))))
 
   pub eq_apart : (a b : A) → ¬ (a ≡ b) → eq a b ≡ false
   eq_apart a b n = Bool-iff_false.0 (λ e. n ((decides.iff a b).0 e))

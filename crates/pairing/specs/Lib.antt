@@ -1,3 +1,3 @@
 pub mod Pairing
 pub mod Multiples
-pub mod Laws
+pub mod Divisors

@@ -1,3 +1,5 @@
 // The even enumeration of tuples of members of some sets (document 000, 4.3, with document 01's
-// shift). The definitions stand in specs/Pairing. The laws stand in Laws, over sizes in general:
+// shift). The definitions stand in specs/Pairing. The laws stand in proofs/Laws, over sizes in general:
 // tuples differ, and each set's members are spread evenly over them. No code.
+
+#![tactic(auto)]

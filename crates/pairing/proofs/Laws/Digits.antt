@@ -6,10 +6,10 @@ use Rattle.std.proofs.Math.Nat.{mod-mod, mod-mod_of_dvd, dvd-mul_right}
 use Rattle.std.proofs.Math.Arith.{digits_div, digits_mod, mod-mul}
 use Rattle.counting.specs.Totals.{product_over}
 use Rattle.counting.specs.Terms.{Each}
-use Rattle.counting.specs.Laws.Members.{each-head, each_tail}
+use Rattle.counting.proofs.Laws.Members.{each-head, each_tail}
 use Rattle.pairing.specs.Pairing.{left_of, right_of}
-use Rattle.pairing.specs.Laws.Walks.{Walk}
-use Rattle.pairing.specs.Laws.Pair.{pair_inj, right_of-walk}
+use Rattle.pairing.proofs.Laws.Walks.{Walk}
+use Rattle.pairing.proofs.Laws.Pair.{pair_inj, right_of-walk}
 
 -- The product of the numbers in a list
 abbrev pub product : List ℕ → ℕ

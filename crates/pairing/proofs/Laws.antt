@@ -10,18 +10,18 @@ use Rattle.std.specs.Prelude.{ℕ, ◌*◌, ◌%◌, ◌≤◌, ◌<◌, ◌≡�
 use Rattle.std.proofs.Common.{sym, ◌∙◌, ap, zero-lt-suc, le_refl, le_trans, lt_of_lt_of_le, one-mul, mod-eq_of_lt, le-div_iff_mul-le, arith}
 use Rattle.std.proofs.Math.Nat.{mod-one, min-eq_left}
 use Rattle.counting.specs.Terms.{Each}
-use Rattle.counting.specs.Laws.Members.{get_or_in}
-use Rattle.counting.specs.Laws.Count.{count_ext}
+use Rattle.counting.proofs.Laws.Members.{get_or_in}
+use Rattle.counting.proofs.Laws.Count.{count_ext}
 use Rattle.pairing.specs.Pairing.{Tuples, tuples, left_of, right_of}
-use Rattle.pairing.specs.Laws.Walks.{walk_lt}
-use Rattle.pairing.specs.Laws.Pair.{left_of-walk, right_of-walk}
-use Rattle.pairing.specs.Laws.Digits.{digits-length, digits-walk, digits_inj}
-use Rattle.pairing.specs.Laws.Prefix.{Starts, tuples-starts}
-pub use Rattle.pairing.specs.Laws.Gcd.{IsGcd, gcd_is_gcd, gcd_within-enough, gcd-pos, IsLcm, lcm_is_lcm, lcm-pos, gcd_mul_lcm}
-pub use Rattle.pairing.specs.Laws.Walks.{hits, EvenShare, Walk, walk-even, once_turned}
-pub use Rattle.pairing.specs.Laws.Pair.{pair_inj}
-pub use Rattle.pairing.specs.Laws.Digits.{product}
-unfoldable pub use Rattle.pairing.specs.Laws.Digits.{digit, digits}
+use Rattle.pairing.proofs.Laws.Walks.{walk_lt}
+use Rattle.pairing.proofs.Laws.Pair.{left_of-walk, right_of-walk}
+use Rattle.pairing.proofs.Laws.Digits.{digits-length, digits-walk, digits_inj}
+use Rattle.pairing.proofs.Laws.Prefix.{Starts, tuples-starts}
+pub use Rattle.pairing.proofs.Laws.Gcd.{gcd_is_gcd, gcd_within-enough, gcd-pos, lcm_is_lcm, lcm-pos, gcd_mul_lcm}
+pub use Rattle.pairing.proofs.Laws.Walks.{hits, EvenShare, Walk, walk-even, once_turned}
+pub use Rattle.pairing.proofs.Laws.Pair.{pair_inj}
+pub use Rattle.pairing.proofs.Laws.Digits.{product}
+unfoldable pub use Rattle.pairing.proofs.Laws.Digits.{digit, digits}
 
 -- ---- pairs
 

@@ -4,7 +4,7 @@ use Rattle.std.specs.Int.{◌∣◌}
 use Rattle.std.proofs.Common.{sym, ◌∙◌, ap, add-zero, arith}
 use Rattle.std.proofs.Math.Nat.{dvd-sub, dvd-mul_right, div-add-mod, add-mod-mod, mod-add-mod, mod-mod_of_dvd, mod-eq-zero_of_dvd}
 use Rattle.pairing.specs.Pairing.{lcm}
-use Rattle.pairing.specs.Laws.Gcd.{lcm_is_lcm}
+use Rattle.pairing.proofs.Laws.Gcd.{lcm_is_lcm}
 
 -- One of the differences `i - j` and `j - i` is 0, and `n` divides both
 dvd_sub-of_mod_eq : (n i j : ℕ) → i % n ≡ j % n → n ∣ i - j

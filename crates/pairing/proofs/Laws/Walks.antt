@@ -5,8 +5,8 @@ use Rattle.std.proofs.Common.{sym, ap, ◌∙◌, subst, suc-mul, div-mul-le_sel
 use Rattle.std.proofs.Math.Nat.{zero-mul, lt-div-mul-add, mod-add-mod, add-mod-mod, add-mod_right}
 use Rattle.std.proofs.Math.Dec.{eqb}
 use Rattle.counting.specs.Totals.{count_below}
-use Rattle.counting.specs.Laws.Count.{count_add, count_mono, count_ext, Once, count-once}
-use Rattle.pairing.specs.Laws.Mod.{add-right_mod_cancel}
+use Rattle.counting.proofs.Laws.Count.{count_add, count_mono, count_ext, Once, count-once}
+use Rattle.pairing.proofs.Laws.Mod.{add-right_mod_cancel}
 
 -- How many of the indices below `n` the function takes to `y`
 abbrev pub hits : ℕ → (ℕ → ℕ) → ℕ → ℕ

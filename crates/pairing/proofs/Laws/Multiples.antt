@@ -6,9 +6,9 @@ use mathlib.Core.List.{List, [], map}
 use Rattle.std.proofs.lemmas.List.{length-map}
 use Rattle.counting.specs.Lists.{up_from}
 use Rattle.counting.specs.Terms.{◌∈◌, Each}
-use Rattle.counting.specs.Laws.Members.{each_map}
-use Rattle.counting.specs.Laws.Range.{of-up_from, length-up_from, get_or-map-up_from}
-use Rattle.counting.specs.Laws.Rows.{rows-length, row-entry}
+use Rattle.counting.proofs.Laws.Members.{each_map}
+use Rattle.counting.proofs.Laws.Range.{of-up_from, length-up_from, get_or-map-up_from}
+use Rattle.counting.proofs.Laws.Rows.{rows-length, row-entry}
 use Rattle.pairing.specs.Pairing.{gcd, lcm}
 use Rattle.pairing.specs.Multiples.{multiple_rows, multiples, multiple_at, Listed, has_row, listed, pairing_multiple}
 

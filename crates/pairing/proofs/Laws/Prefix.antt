@@ -8,10 +8,10 @@ use Rattle.std.proofs.Math.Nat.{mul-one, mul_assoc, le-mul_of_pos_right, min-eq_
 use Rattle.std.proofs.Math.Decide.{dec_le}
 use Rattle.counting.specs.Totals.{product_over}
 use Rattle.counting.specs.Terms.{Each}
-use Rattle.counting.specs.Laws.Members.{each-head, each_tail}
+use Rattle.counting.proofs.Laws.Members.{each-head, each_tail}
 use Rattle.pairing.specs.Pairing.{Tuples, single, paired_with, paired_with_all, tuples, left_of}
-use Rattle.pairing.specs.Laws.Pair.{right_of-below-left, right_of-below-right}
-use Rattle.pairing.specs.Laws.Digits.{product, digit, digits, digit-below, digit_mod}
+use Rattle.pairing.proofs.Laws.Pair.{right_of-below-left, right_of-below-right}
+use Rattle.pairing.proofs.Laws.Digits.{product, digit, digits, digit-below, digit_mod}
 
 -- `r` has the first rows of `row`: as many as wanted, but at most `p`
 pub record Starts (want p : ℕ) (r : Tuples) (row : ℕ → List ℕ) : Type 0 where

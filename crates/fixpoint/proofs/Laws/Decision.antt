@@ -3,9 +3,9 @@ use Rattle.std.specs.Prelude.{ℕ, ◌<◌, ◌≡◌, refl, ◌↔◌, ◌⊎�
 use Rattle.std.proofs.Common.{subst, inl, inr, le_refl, arith}
 use Rattle.fixpoint.specs.Limits.{Limit, Verdict, unsatisfiable, fixpoint, run}
 use Rattle.fixpoint.specs.Notions.{◌≼◌, Solution, GreatestSolution, Fixpoint, EndsUnsatisfiable, EndsFixpoint}
-use Rattle.fixpoint.specs.Laws.Order.{greatest-unique}
-use Rattle.fixpoint.specs.Laws.Round.{upper_after-sound}
-use Rattle.fixpoint.specs.Laws.Run.{Ends, run_ends}
+use Rattle.fixpoint.proofs.Laws.Order.{greatest-unique}
+use Rattle.fixpoint.proofs.Laws.Round.{upper_after-sound}
+use Rattle.fixpoint.proofs.Laws.Run.{Ends, run_ends}
 
 module _ (ls : List Limit) (lower start : List ℕ) (sized : length lower ≡ length start) where
   pub ends : {v : Verdict} → run ls lower start ≡ v → Ends ls lower start v

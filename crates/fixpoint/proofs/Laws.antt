@@ -12,10 +12,10 @@ use Rattle.counting.specs.Totals.{sum_over}
 use Rattle.counting.specs.Terms.{Each}
 use Rattle.fixpoint.specs.Limits.{Limit, Expr, value_of, round, upper_after, unsatisfiable, fixpoint, run, step_at, lowers_at, any_lowers, steps_by}
 use Rattle.fixpoint.specs.Notions.{◌≼◌, Satisfies, Solution, GreatestSolution, Unsatisfiable, Fixpoint, EndsUnsatisfiable, EndsFixpoint, Lowers, LowersTo, EachLowers, Stable, ComesBack}
-use Rattle.fixpoint.specs.Laws.Order.{value_of-monotone, greatest-unique}
-use Rattle.fixpoint.specs.Laws.Round.{le_round, round_≼, round-monotone, round_same, upper_after-sound}
-use Rattle.fixpoint.specs.Laws.Decision
-use Rattle.fixpoint.specs.Laws.AnyOrder
+use Rattle.fixpoint.proofs.Laws.Order.{value_of-monotone, greatest-unique}
+use Rattle.fixpoint.proofs.Laws.Round.{le_round, round_≼, round-monotone, round_same, upper_after-sound}
+use Rattle.fixpoint.proofs.Laws.Decision
+use Rattle.fixpoint.proofs.Laws.AnyOrder
 
 pub record RoundLaws (ls : List Limit) : Type 0 where
   pub value_monotone : {a b : List ℕ} → a ≼ b → (e : Expr) → value_of a e ≤ value_of b e

@@ -12,14 +12,14 @@ use Rattle.std.proofs.Math.ListN.{length}
 use Rattle.std.proofs.lemmas.List.{length-replicate}
 use Rattle.counting.specs.Lists.{up_from}
 use Rattle.counting.specs.Totals.{sum_over}
-use Rattle.counting.specs.Laws.Members.{each_nil, each-cons, each-head, each_tail}
-use Rattle.counting.specs.Laws.Index.{At, first, later}
-use Rattle.counting.specs.Laws.Range.{up_from_snoc}
+use Rattle.counting.proofs.Laws.Members.{each_nil, each-cons, each-head, each_tail}
+use Rattle.counting.specs.Index.{At, first, later}
+use Rattle.counting.proofs.Laws.Range.{up_from_snoc}
 use Rattle.fixpoint.specs.Limits.{Limit, value_of, lowered, lowered_by, round, slack, lowers, step_at, lowers_at, any_lowers, steps_by}
 use Rattle.fixpoint.specs.Notions.{◌≼◌, Satisfies, GreatestSolution, Lowers, LowersTo, EachLowers, Stable, ComesBack}
-use Rattle.fixpoint.specs.Laws.Order.{≼_refl, ≼_trans, ≼_antisym}
-use Rattle.fixpoint.specs.Laws.Round.{round_≼, round-sound, round_same}
-use Rattle.fixpoint.specs.Laws.Tests.{slack_less}
+use Rattle.fixpoint.proofs.Laws.Order.{≼_refl, ≼_trans, ≼_antisym}
+use Rattle.fixpoint.proofs.Laws.Round.{round_≼, round-sound, round_same}
+use Rattle.fixpoint.proofs.Laws.Tests.{slack_less}
 
 -- ---- one limit
 
@@ -55,11 +55,13 @@ lowers_decides l c = (step-lowers l c, λ n. go (lowers c l) refl n)
 
 pub step_at-is : (ls : List Limit) {k : ℕ} (c : List ℕ) {l : Limit} → At l ls k → step_at ls k c ≡ lowered c l c
 unfolding step_at
+step_at-is [] {k = k} c {l = l} x' = elim x' [ ]
 step_at-is (x ∷ ls) c (first e) = ap (λ (y : Limit). lowered c y c) (sym e)
 step_at-is (x ∷ ls) c (later h) = step_at-is ls c h
 
 pub lowers_at-is : (ls : List Limit) {k : ℕ} (c : List ℕ) {l : Limit} → At l ls k → lowers_at ls k c ≡ lowers c l
 unfolding lowers_at
+lowers_at-is [] {k = k} c {l = l} x' = elim x' [ ]
 lowers_at-is (x ∷ ls) c (first e) = ap (lowers c) (sym e)
 lowers_at-is (x ∷ ls) c (later h) = lowers_at-is ls c h
 

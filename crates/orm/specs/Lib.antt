@@ -17,5 +17,7 @@ pub mod Program
 pub mod MultiplesText
 pub mod WellFormed
 pub mod Meaning
-pub mod Cases
-pub mod Laws
+pub mod Inside
+pub mod Climbs
+pub mod Ranges
+pub mod Sample

@@ -1,4 +1,4 @@
--- Populations and the constraints K1 to K11 as propositions; `Laws/Decided` shows that the tests of `Constraints` decide them
+-- Populations and the constraints K1 to K11 as propositions; `proofs/Laws/Decided` shows that the tests of `Constraints` decide them
 -- (document 01, 'Constraints of a population').
 use Rattle.std.specs.Prelude.{ℕ, suc, ◌≤◌, ◌≡◌, ◌⊎◌, List, [], ◌∷◌, length}
 use Rattle.counting.specs.Lists.{same}

@@ -151,7 +151,7 @@ unfoldable pub upper_after_rounds : Diagram → ℕ → List ℕ
 upper_after_rounds d n = upper_after (limits d) (upper d) n
 
 -- The bound in 'Where no ceiling starts below its floor, the count is at most 1 plus the sum of (starting ceiling - floor)';
--- `Laws/Rounds` has the inequality
+-- `proofs/Laws/Rounds` has the inequality
 unfoldable pub most_rounds : Diagram → ℕ
 most_rounds d = suc (slack (lower d) (upper d))
 

@@ -5,10 +5,10 @@ use Rattle.std.proofs.Math.Option.{Option, none, some}
 use mathlib.Core.List.{List, [], ◌∷◌, ◌++◌, flat_map, flatten, append_assoc}
 use Rattle.std.proofs.Math.Nat.{suc_inj}
 use Rattle.counting.specs.Terms.{Each}
-use Rattle.counting.specs.Laws.Members.{each-head, each_tail}
+use Rattle.counting.proofs.Laws.Members.{each-head, each_tail}
 use Rattle.orm.specs.Diagram.{LineKind}
 use Rattle.orm.specs.Reader.{Cut, broken, cut, exactly}
-use Rattle.orm.specs.Laws.Readers.{cut-cons, exactly_append, exactly-cut}
+use Rattle.orm.proofs.Laws.Readers.{cut-cons, exactly_append, exactly-cut}
 use Rattle.orm.specs.Form.{fields}
 use Rattle.orm.specs.Text.{bytes, key, separator, is_digit, decimal, values_text, line_text, Numeral, malformed, numeral, number, after, numbers, text_line, table_line}
 use Rattle.orm.specs.MultiplesText.{line_numbers}

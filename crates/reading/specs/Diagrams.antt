@@ -6,7 +6,7 @@ use mathlib.Core.List.{List, [], ◌∷◌, append_assoc, append-nil}
 use Rattle.std.proofs.Math.ListN.{length}
 use Rattle.orm.specs.Diagram.{ObjectType, Predicate, Diagram, LineKind, diagram_line, types_line, preds_line, all_roles, all_groups, lines}
 use Rattle.orm.specs.Reader.{read, ◌>>=◌, pure, at_end, Cut}
-use Rattle.orm.specs.Laws.Readers.{bind_read, bind_cases}
+use Rattle.orm.proofs.Laws.Readers.{bind_read, bind_cases}
 use Rattle.orm.specs.Form.{ranges, diagram_lines, whole_diagram, reading}
 use Rattle.orm.specs.Meaning.{Between}
 use Rattle.orm.specs.WellFormed.{WellFormed}

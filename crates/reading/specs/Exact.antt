@@ -8,7 +8,7 @@ use mathlib.Core.List.{List, [], ◌∷◌, ◌++◌, map, flat_map, append_asso
 use Rattle.counting.specs.Terms.{◌∈◌, Each2}
 use Rattle.orm.specs.Diagram.{LineKind, Line}
 use Rattle.orm.specs.Reader.{read, Reader, ◌>>=◌, pure, for_each}
-use Rattle.orm.specs.Laws.Readers.{bind_read, bind_cases}
+use Rattle.orm.proofs.Laws.Readers.{bind_read, bind_cases}
 
 -- `form` is how a line stands in what is read
 module _ (form : LineKind → List ℕ → List ℕ) where

@@ -1,7 +1,7 @@
 -- What a line of each kind must hold, as facts: type, predicate, role, freq lines and lines with a count.
 use Rattle.std.specs.Prelude.{ℕ, ◌+◌, ◌≤◌, ◌≡◌, ◌↔◌, Bool, true, ◌||◌, List, [], ◌∷◌, ◌++◌, eqb}
 use Rattle.std.proofs.Math.Path.{refl, sym, ap, ap₂}
-use Rattle.std.proofs.Math.Logic.{Iff·trans, Iff·and}
+use Rattle.std.proofs.Math.Logic.Iff
 use Rattle.std.proofs.Math.Bool.{false, and-eq-true_iff}
 use Rattle.std.proofs.lemmas.Bool.{false≢true}
 use Rattle.std.proofs.Math.Option.{some}
@@ -13,16 +13,16 @@ use native.Mathlib.Omega.{arith}
 use borrow.Author.Tests.{leb-true, le-leb, ltb-true, lt-ltb, eqb-true, eqb-false, eq-eqb}
 use Rattle.std.proofs.Math.ListN.{length}
 use Rattle.counting.specs.Distinct.{all}
-use Rattle.counting.specs.Laws.Distinct.{all_decides}
+use Rattle.counting.proofs.Laws.Distinct.{all_decides}
 use Rattle.counting.specs.Terms.{◌∈◌}
-use Rattle.counting.specs.Laws.Members.{each_nil, each-cons}
-use Rattle.counting.specs.Laws.Instances.{eqb_decides}
+use Rattle.counting.proofs.Laws.Members.{each_nil, each-cons}
+use Rattle.counting.proofs.Laws.Instances.{eqb_decides}
 use Rattle.orm.specs.Diagram.{ObjectType, Role, Frequency, LineKind, type_line, pred_line, limited_role_line, freq_line, end_line, limits_roles, role_line_of, line_of_type, line_of_role, line_of_group, line_of_count, is_root, index}
 use Rattle.orm.specs.Supertypes.{first_value, has_range, last_value}
 use Rattle.orm.specs.Reader.{rejected, read, Cut}
 use Rattle.orm.specs.Form.{◌to◌, ranges, fields, in_ranges, first_of, count_of, type_of, role_of, group_of, PredHead, head_of, within_super, values_in_order, type_tests, pred_tests, role_tests, named, group_tests, end_tests, most_roles, most_groups, line, count}
 use Rattle.orm.specs.Meaning.{Between, HasRange}
-use Rattle.orm.specs.Laws.Decided.{leb_decides, if_decides, has_range_decides}
+use Rattle.orm.proofs.Laws.Decided.{leb_decides, if_decides, has_range_decides}
 use Rattle.orm.specs.WellFormed.{TypeForm, RoleForm, OfKind, GroupForm}
 use Rattle.reading.specs.Exact.{written, Exact, exact_as}
 use Rattle.reading.specs.TextLength.{first_small}
@@ -51,10 +51,10 @@ pub values_decides : (before : List ObjectType) (t : ObjectType) → values_in_o
 unfolding values_in_order within_super is_root
 values_decides before t =
     if_decides (has_range t) _ (has_range_decides t)
-    (Iff·trans (and-eq-true_iff _ _)
-    (Iff·and (leb_decides t.first t.last)
+    (Iff.trans (and-eq-true_iff _ _)
+    (Iff.and (leb_decides t.first t.last)
     (or_unless _ _ (eqb_decides.iff t.super 0)
-    (Iff·trans (and-eq-true_iff _ _) (Iff·and (eqb_decides.iff t.first _) (leb_decides t.last _))))))
+    (Iff.trans (and-eq-true_iff _ _) (Iff.and (eqb_decides.iff t.first _) (leb_decides t.last _))))))
 
 named_decides : (g : ℕ) (rs : List Role) → named g rs ≡ true ↔ ((r : Role) × (r ∈ rs) × (r.group ≡ g))
 unfolding named

@@ -3,19 +3,19 @@ use Prim.Native.Nat.{ℕ, suc, ◌+◌, ◌≤◌}
 use Rattle.std.specs.Prelude.{◌≡◌, ◌↔◌, Bool, true, false, leb, length}
 use Rattle.std.proofs.Math.Path.{refl}
 use Rattle.std.proofs.Common.{ap, ◌∙◌, le_trans, add-one, arith, leb-true}
-use Rattle.std.proofs.Math.Logic.{Iff·trans, Iff·and}
+use Rattle.std.proofs.Math.Logic.Iff
 use Rattle.std.proofs.lemmas.Bool.{false≢true}
 use Rattle.std.proofs.Math.Bool.{and-eq-true_iff}
 use Rattle.std.proofs.Math.Option.{Option, none, some}
 use mathlib.Core.List.{List, [], ◌∷◌, ◌++◌}
 use Rattle.std.proofs.Math.Nat.{suc_inj}
 use Rattle.counting.specs.Terms.{Each}
-use Rattle.counting.specs.Laws.Members.{each_nil, each-cons, each-head, each_tail}
+use Rattle.counting.proofs.Laws.Members.{each_nil, each-cons, each-head, each_tail}
 use Rattle.orm.specs.Diagram.{LineKind, Line}
 use Rattle.orm.specs.Reader.{Reading, rejected, read, Cut, broken, cut}
 use Rattle.orm.specs.Form.{Range, ◌to◌, unlimited, ranges, fields, in_range, in_ranges, Test, ◌unless◌, first_of, line}
 use Rattle.orm.specs.Meaning.{Between}
-use Rattle.orm.specs.Laws.Decided.{in_range_decides}
+use Rattle.orm.proofs.Laws.Decided.{in_range_decides}
 use Rattle.reading.specs.Exact.{written, written_one, Read, Exact}
 
 abbrev InRange : Range → ℕ → Type 0
@@ -37,7 +37,7 @@ in_ranges_decides : (rs : List Range) (vs : List ℕ) → in_ranges rs vs ≡ tr
 unfolding in_ranges
 in_ranges_decides [] vs = (λ e. tt, λ h. refl)
 in_ranges_decides (r ∷ rs) [] = (λ e. tt, λ h. refl)
-in_ranges_decides (r ∷ rs) (v ∷ vs) = Iff·trans (and-eq-true_iff _ _) (Iff·and (in_range_decides_lem r v) (in_ranges_decides rs vs))
+in_ranges_decides (r ∷ rs) (v ∷ vs) = Iff.trans (and-eq-true_iff _ _) (Iff.and (in_range_decides_lem r v) (in_ranges_decides rs vs))
 
 -- Each test passes
 abbrev pub Passed : List Test → Type 0
@@ -93,7 +93,7 @@ LineForm k make tests line_of a = InRanges (ranges k) (line_of a).values × (Pas
 
 pub tested_decides : (k : LineKind) (v : List ℕ) (ts : List Test)
     → first_of (2 unless in_ranges (ranges k) v ∷ ts) ≡ none ↔ (InRanges (ranges k) v × Passed ts)
-tested_decides k v ts = Iff·trans (passed_decides _) (λ h. ((in_ranges_decides _ v).0 h.0, h.1), λ h. ((in_ranges_decides _ v).1 h.0, h.1))
+tested_decides k v ts = Iff.trans (passed_decides _) (λ h. ((in_ranges_decides _ v).0 h.0, h.1), λ h. ((in_ranges_decides _ v).1 h.0, h.1))
 
 -- A line that is cut off and has a number out of its range
 pub out_of_range : {A : Type 0} (next : LineKind → List ℕ → Cut) (k : LineKind) (make : List ℕ → A) (tests : A → List Test) (n : ℕ) (s v rest : List ℕ)

@@ -5,7 +5,7 @@ use Rattle.counting.specs.Lists.{up_from}
 use Rattle.orm.specs.Diagram.{ObjectType, Role, Frequency, Predicate, Diagram, table}
 use Rattle.orm.specs.Text.{render}
 use Rattle.orm.specs.WellFormed.{WellFormed}
-use Rattle.orm.specs.Cases.All.{everything}
+use Rattle.orm.proofs.Cases.All.{everything}
 use Rattle.reading.specs.Laws.{well_formed-iff-accepted}
 
 -- 32 types, each the supertype of the next and with its range; 16 predicates of three roles in two groups, 16 in one

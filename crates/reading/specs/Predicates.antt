@@ -8,8 +8,8 @@ use Rattle.std.proofs.Common.{arith, length-append}
 use Rattle.std.proofs.Math.ListN.{length}
 use Rattle.counting.specs.Lists.{up_from}
 use Rattle.counting.specs.Terms.{Each, Each2}
-use Rattle.counting.specs.Laws.Members.{each_nil, each-cons, each_append, each-head, each_tail}
-use Rattle.counting.specs.Laws.Range.{each2_numbered, each-from-each, numbered-length}
+use Rattle.counting.proofs.Laws.Members.{each_nil, each-cons, each_append, each-head, each_tail}
+use Rattle.counting.proofs.Laws.Range.{each2_numbered, each-from-each, numbered-length}
 use Rattle.orm.specs.Diagram.{Role, Predicate, LineKind, freq_line, role_line_of, line_of_role, line_of_group, line_of_pred, lines_of_pred}
 use Rattle.orm.specs.Reader.{for_each, Cut}
 use Rattle.orm.specs.Form.{PredHead, role_of, group_of, role_tests, group_tests, line, predicate, predicates}

@@ -11,12 +11,12 @@ use Rattle.std.proofs.Math.ListN.{length, length-append}
 use Rattle.std.specs.Prelude.{drop}
 use Rattle.counting.specs.Lists.{up_from}
 use Rattle.counting.specs.Terms.{EachFrom}
-use Rattle.counting.specs.Laws.Range.{length-up_from}
-use Rattle.counting.specs.Laws.Members.{each_nil, each-cons, each-head, each_tail}
+use Rattle.counting.proofs.Laws.Range.{length-up_from}
+use Rattle.counting.proofs.Laws.Members.{each_nil, each-cons, each-head, each_tail}
 use Rattle.orm.specs.Diagram.{ObjectType, Predicate, Diagram, LineKind, diagram_line, types_line, type_line, preds_line, pred_line, role_line, freq_line, end_line}
 use Rattle.orm.specs.Diagram.{limits_roles, role_line_of, line_of_count, line_of_type, lines_of_pred, all_roles, lines}
 use Rattle.orm.specs.Reader.{Reading, rejected, read, Reader, ◌>>=◌, pure, for_each, at_end, Cut, broken, cut}
-use Rattle.orm.specs.Laws.Readers.{bind_read, bind_rejected, bind_cases, cut-cons}
+use Rattle.orm.proofs.Laws.Readers.{bind_read, bind_rejected, bind_cases, cut-cons}
 use Rattle.orm.specs.Form.{Test, ◌unless◌, first_of, ranges, in_ranges, fields, count_of, type_of, role_of, group_of, head_of, type_tests, pred_tests, role_tests, group_tests, end_tests}
 use Rattle.orm.specs.Form.{line, count, types_after, predicate, predicates, diagram_lines, whole_diagram, reading}
 use Rattle.orm.specs.Outcome.{outcome_of}

@@ -8,14 +8,16 @@ use Rattle.std.proofs.Math.Nat.{suc_inj}
 use Rattle.std.proofs.Math.Decide.{dec_le}
 use native.Mathlib.Omega.{arith}
 use Rattle.std.proofs.Math.ListN.{length-append, length-map, get_or-eq_default}
-use Rattle.counting.specs.Laws.Index.{At, first, at_append_left, at_append_right, below_at}
+use Rattle.counting.proofs.Laws.Index.{at_append_left, at_append_right, below_at}
+use Rattle.counting.specs.Index.{At, first}
 use Rattle.counting.specs.Terms.{EachFrom}
 use Rattle.orm.specs.Diagram.{ObjectType, LineKind, line_of_type, index}
 use Rattle.orm.specs.Supertypes.{super_at, first_value, last_value}
 use Rattle.orm.specs.Reader.{Cut}
 use Rattle.orm.specs.Form.{types_after}
 use Rattle.orm.specs.WellFormed.{TypeForm}
-use Rattle.orm.specs.Laws.Supertypes.{Supers, super_at_nth, first_value-more, last_value-more}
+use Rattle.orm.proofs.Laws.Supertypes.{super_at_nth, first_value-more, last_value-more}
+use Rattle.orm.specs.Climbs.{Supers}
 use Rattle.reading.specs.Exact.{Exact, exact_as, pure-exact, ConsForm, ConsLines, cons-exact}
 use Rattle.reading.specs.Lines.{Cuts}
 use Rattle.reading.specs.Kinds.{type-exact}

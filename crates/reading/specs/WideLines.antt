@@ -7,8 +7,8 @@ use Rattle.std.proofs.Math.Bool.{false}
 use mathlib.Core.List.{List, [], ◌∷◌, ◌++◌, map, flat_map, append-nil}
 use borrow.Author.Tests.{eqb-false}
 use Rattle.counting.specs.Terms.{Each}
-use Rattle.counting.specs.Laws.Maps.{flat_map_append}
-use Rattle.counting.specs.Laws.Members.{each-cons, each-head, each_tail, each_map, in_flat_map}
+use Rattle.counting.proofs.Laws.Maps.{flat_map_append}
+use Rattle.counting.proofs.Laws.Members.{each-cons, each-head, each_tail, each_map, in_flat_map}
 use Rattle.orm.specs.Diagram.{Role, Predicate, Diagram, Line, limits_roles, role_line_of, line_of_type, line_of_role, line_of_group, line_of_pred, lines_of_pred}
 use Rattle.orm.specs.Diagram.{line_of_count, types_line, preds_line, end_line, all_roles, lines, table}
 use Rattle.orm.specs.Meaning.{Between}

@@ -6,7 +6,7 @@ use Rattle.std.proofs.Common.{sym, ap, ◌∙◌}
 use mathlib.Core.List.{List, [], ◌∷◌, ◌++◌, map, flat_map, append_assoc}
 use Rattle.orm.specs.Diagram.{ObjectType, Predicate, Diagram, Line, Totals, totals, all_roles, all_groups, LineKind, diagram_line, types_line, type_line, preds_line, end_line, line_of_type, line_of_count, lines_of_pred, lines, table}
 use Rattle.orm.specs.Reader.{Reading, rejected, read, Reader, ◌>>=◌, pure, at_end, Cut}
-use Rattle.orm.specs.Laws.Readers.{bind_cases}
+use Rattle.orm.proofs.Laws.Readers.{bind_cases}
 use Rattle.orm.specs.Form.{ranges, fields, count_of, type_of, type_tests, end_tests, line, count, types_after, predicate, predicates, diagram_lines, whole_diagram, reading}
 use Rattle.reading.specs.Exact.{written, written_append}
 use Rattle.reading.specs.Lines.{Cuts}
@@ -26,7 +26,7 @@ predicates-length next kind t r g (suc k) n s {ps} e =
     bind_cases (predicate next kind t r g) _ n s e λ p i u h e'.
     bind_cases (predicates next kind t (r + length p.roles) (g + length p.groups) k) _ i u e' λ qs j w h' e''.
     let z : p ∷ qs ≡ ps = cc in
-    ap length (sym z) ∙ ap suc (predicates-length next kind t _ _ k i u h')
+    ap length (sym z) ∙ ap suc (predicates-length next kind t (r + length p.roles) (g + length p.groups) k i u h')
 
 types-length : (next : LineKind → List ℕ → Cut) (before : List ObjectType) (k n : ℕ) (s : List ℕ) {ts : List ObjectType} {n' : ℕ} {rest : List ℕ}
     → types_after next before k n s ≡ read ts n' rest → length ts ≡ k

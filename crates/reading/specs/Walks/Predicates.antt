@@ -8,10 +8,10 @@ use mathlib.Core.List.{List, [], ◌∷◌, ◌++◌, map, flat_map, append_asso
 use Rattle.std.proofs.Math.ListN.{length, length-append}
 use Rattle.std.proofs.Math.Seq.{drop-append_seam}
 use Rattle.counting.specs.Lists.{each, up_from}
-use Rattle.counting.specs.Laws.Range.{numbered-length}
+use Rattle.counting.proofs.Laws.Range.{numbered-length}
 use Rattle.orm.specs.Diagram.{Role, Frequency, Predicate, Totals, LineKind, pred_line, freq_line, role_line_of, line_of_role, line_of_group, line_of_pred, lines_of_pred}
 use Rattle.orm.specs.Reader.{Reading, rejected, read, Reader, pure, for_each, Cut}
-use Rattle.orm.specs.Laws.Readers.{for_each-each}
+use Rattle.orm.proofs.Laws.Readers.{for_each-each}
 use Rattle.orm.specs.Form.{◌unless◌, fields, named, PredHead, role_of, group_of, head_of, pred_tests, role_tests, group_tests, line, predicate, predicates}
 use Rattle.reading.specs.Exact.{written, written_append}
 use Rattle.reading.specs.Lines.{Cuts}

@@ -7,7 +7,7 @@ use Rattle.std.proofs.Common.{◌∙◌}
 use Rattle.std.proofs.Math.Bool.{true, false}
 use mathlib.Core.List.{List, [], ◌∷◌, ◌++◌, map, flat_map}
 use Rattle.std.proofs.Math.ListN.{length, length-append}
-use Rattle.counting.specs.Laws.Maps.{flat_map_append}
+use Rattle.counting.proofs.Laws.Maps.{flat_map_append}
 use Rattle.orm.specs.Diagram.{ObjectType, Role, Frequency, Predicate, Diagram, Line, line_of_type, line_of_role, line_of_group, line_of_pred}
 use Rattle.orm.specs.Diagram.{lines_of_pred, line_of_count, diagram_line, types_line, preds_line, end_line, role_line, limited_role_line, limits_roles, role_line_of}
 use Rattle.orm.specs.Diagram.{all_roles, all_groups, lines, table}

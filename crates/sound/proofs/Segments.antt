@@ -1,7 +1,8 @@
 -- Where the sizes of some sets stand in a list of sizes.
 use Rattle.std.specs.Prelude.{ℕ, suc, ◌+◌, ◌≡◌, refl, List, ◌∷◌, ◌++◌, map, length, get_or}
 use Rattle.std.proofs.Common.{add-zero, zero-add, add_assoc, add-suc, suc-add}
-use Rattle.counting.specs.Laws.Index.{At, first, later, at-get_or, at_map, at_append_left, at_append_right}
+use Rattle.counting.proofs.Laws.Index.{at-get_or, at_map, at_append_left, at_append_right}
+use Rattle.counting.specs.Index.{At, first, later}
 
 module _ {A : Type 0} (f : A → ℕ) where
   -- In `c`, from index `i` on, stand the sizes `f` of the elements of `l`

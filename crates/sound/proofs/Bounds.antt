@@ -8,12 +8,13 @@ use Rattle.std.proofs.Math.Nat.{suc_inj, le-min}
 use Rattle.std.proofs.Math.ListN.{length}
 use Rattle.counting.specs.Lists.{up_from, column}
 use Rattle.counting.specs.Terms.{◌∈◌, NoRepeats}
-use Rattle.counting.specs.Laws.Members.{no_repeats_le}
-use Rattle.counting.specs.Laws.Range.{in_up_from, length-up_from}
-use Rattle.counting.specs.Laws.Instances.{eqb_decides, same_decides}
-use Rattle.counting.specs.Laws.Index.{At, first, later, at_in, at_map, at-unique, of-map_from, of-flatten-zip_with}
+use Rattle.counting.proofs.Laws.Members.{no_repeats_le}
+use Rattle.counting.proofs.Laws.Range.{in_up_from, length-up_from}
+use Rattle.counting.proofs.Laws.Instances.{eqb_decides, same_decides}
+use Rattle.counting.proofs.Laws.Index.{at_in, at_map, at-unique, of-map_from, of-flatten-zip_with}
+use Rattle.counting.specs.Index.{At, first, later}
 use Rattle.fixpoint.specs.Notions.{◌≼◌}
-use Rattle.fixpoint.specs.Laws.Order.{≼_refl, ≼_cons, ≼_tail}
+use Rattle.fixpoint.proofs.Laws.Order.{≼_refl, ≼_cons, ≼_tail}
 use Rattle.orm.specs.Diagram.{ObjectType, Role, Predicate, Diagram, all_roles, all_groups}
 use Rattle.orm.specs.Supertypes.{has_range}
 use Rattle.orm.specs.Sets.{lower, upper_of_type, upper_of_role, upper}
@@ -21,10 +22,10 @@ use Rattle.orm.specs.Population.{Population}
 use Rattle.orm.specs.Constraints.{Played, member_count, Grouped, played, grouped, all_played, all_grouped, sizes}
 use Rattle.orm.specs.Meaning.{Between, M1, M2, M3, M6, M11, Meets, Shaped}
 use Rattle.orm.specs.WellFormed.{WellFormed}
-use Rattle.orm.specs.Laws.Decided.{has_range_decides}
-use Rattle.sound.specs.Counts.{distinct-between}
-use Rattle.sound.specs.Each.{each-type, each-pred}
-use Rattle.sound.specs.Positions.{grouped_size, roles-played, preds-length, roles-length, groups-length}
+use Rattle.orm.proofs.Laws.Decided.{has_range_decides}
+use Rattle.sound.proofs.Counts.{distinct-between}
+use Rattle.sound.proofs.Each.{each-type, each-pred}
+use Rattle.sound.proofs.Positions.{grouped_size, roles-played, preds-length, roles-length, groups-length}
 
 -- ---- lists of sizes in order
 

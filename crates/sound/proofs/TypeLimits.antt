@@ -6,10 +6,11 @@ use Rattle.std.proofs.lemmas.Bool.{not-true, eqb-false}
 use Rattle.counting.specs.Totals.{sum_over}
 use Rattle.counting.specs.Distinct.{distinct}
 use Rattle.counting.specs.Terms.{◌⊆◌, NoRepeats}
-use Rattle.counting.specs.Laws.Members.{each_append, no_repeats_le}
-use Rattle.counting.specs.Laws.Sizes.{no_repeats_le_distinct, distinct_append_le}
-use Rattle.counting.specs.Laws.Instances.{eqb_decides}
-use Rattle.counting.specs.Laws.Index.{At, at-below, below_at, each-from-at}
+use Rattle.counting.proofs.Laws.Members.{each_append, no_repeats_le}
+use Rattle.counting.proofs.Laws.Sizes.{no_repeats_le_distinct, distinct_append_le}
+use Rattle.counting.proofs.Laws.Instances.{eqb_decides}
+use Rattle.counting.proofs.Laws.Index.{at-below, below_at, each-from-at}
+use Rattle.counting.specs.Index.{At}
 use Rattle.fixpoint.specs.Limits.{value_of}
 use Rattle.fixpoint.specs.Notions.{Holds, Satisfies}
 use Rattle.orm.specs.Diagram.{ObjectType, Role, Diagram, index, is_root}
@@ -17,13 +18,13 @@ use Rattle.orm.specs.Sets.{first_role, select, roles_of_type, limits_of_type}
 use Rattle.orm.specs.Population.{Population}
 use Rattle.orm.specs.Constraints.{Played, member_count, all_played, values_in_roles, members_of, sizes}
 use Rattle.orm.specs.Meaning.{Between, MustPlay, M1, M4, M10, EachType, Meets, Shaped}
-use Rattle.orm.specs.Laws.Decided.{must_play_decides, in_roles}
+use Rattle.orm.proofs.Laws.Decided.{must_play_decides, in_roles}
 use Rattle.orm.specs.WellFormed.{WellFormed, TypeForm}
-use Rattle.sound.specs.Each.{each-type}
-use Rattle.sound.specs.Segments.{Segment, size-at, head-size, tail}
-use Rattle.sound.specs.Positions.{roles-played, types_segment, roles_segment, size-of-type}
-use Rattle.orm.specs.Laws.Limits.{each-only_if}
-use Rattle.sound.specs.Satisfied.{at-most}
+use Rattle.sound.proofs.Each.{each-type}
+use Rattle.sound.proofs.Segments.{Segment, size-at, head-size, tail}
+use Rattle.sound.proofs.Positions.{roles-played, types_segment, roles_segment, size-of-type}
+use Rattle.orm.proofs.Laws.Limits.{each-only_if}
+use Rattle.sound.proofs.Satisfied.{at-most}
 
 -- The values in some roles are at most the sum of these roles' sizes
 values_le_sum : (c : List ℕ) (number i : ℕ) (xs : List Played) → Segment member_count c i xs

@@ -12,15 +12,16 @@ use Rattle.std.proofs.Math.ListN.{length, length-map}
 use Rattle.counting.specs.Lists.{map_from, same, column, combination}
 use Rattle.counting.specs.Distinct.{distinct}
 use Rattle.counting.specs.Terms.{◌∈◌, NoRepeats, Each2}
-use Rattle.counting.specs.Laws.Index.{At, first, later, below_at, at-get_or, at-map_from, length-map_from, each2_length}
+use Rattle.counting.proofs.Laws.Index.{below_at, at-get_or, at-map_from, length-map_from, each2_length}
+use Rattle.counting.specs.Index.{At, first, later}
 use Rattle.orm.specs.Diagram.{Role, Frequency, Predicate, Diagram, index, all_roles, all_groups}
 use Rattle.orm.specs.Sets.{first_pred, first_role, first_group, roles_in_group, group_set, Placed, placed_from, placed}
 use Rattle.orm.specs.Population.{Population}
 use Rattle.orm.specs.Constraints.{Played, member_count, Grouped, played, grouped, all_played, all_grouped, sizes, members_of}
 use Rattle.orm.specs.Meaning.{Between, M1, EachType, Rows, Shaped}
-use Rattle.sound.specs.Each.{each-type}
-use Rattle.sound.specs.Counts.{column_size, combination_size}
-use Rattle.sound.specs.Segments.{Segment, whole, before, behind, size-at, head-size, tail, left, right}
+use Rattle.sound.proofs.Each.{each-type}
+use Rattle.sound.proofs.Counts.{column_size, combination_size}
+use Rattle.sound.proofs.Segments.{Segment, whole, before, behind, size-at, head-size, tail, left, right}
 
 abbrev pub grouped_size : Grouped → ℕ
 grouped_size x = length (distinct same x.combinations)

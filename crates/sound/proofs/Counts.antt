@@ -12,12 +12,12 @@ use Rattle.counting.specs.Lists.{same, column, combination}
 use Rattle.counting.specs.Totals.{product_over}
 use Rattle.counting.specs.Distinct.{distinct}
 use Rattle.counting.specs.Terms.{Decides, ◌∈◌}
-use Rattle.counting.specs.Laws.Members.{map-within, map_agree, choices, in_choices, length-choices}
-use Rattle.counting.specs.Laws.Distinct.{in_distinct-map, length-distinct_le}
-use Rattle.counting.specs.Laws.Sums.{product_over-map, product_over_mono}
-use Rattle.counting.specs.Laws.Sizes.{distinct_le_length, distinct-map_le}
-use Rattle.counting.specs.Laws.Instances.{eqb_decides, same_decides}
-use Rattle.counting.specs.Laws.Index.{in_at, at_map, at-get_or}
+use Rattle.counting.proofs.Laws.Members.{map-within, map_agree, choices, in_choices, length-choices}
+use Rattle.counting.proofs.Laws.Distinct.{in_distinct-map, length-distinct_le}
+use Rattle.counting.proofs.Laws.Sums.{product_over-map, product_over_mono}
+use Rattle.counting.proofs.Laws.Sizes.{distinct_le_length, distinct-map_le}
+use Rattle.counting.proofs.Laws.Instances.{eqb_decides, same_decides}
+use Rattle.counting.proofs.Laws.Index.{in_at, at_map, at-get_or}
 use Rattle.orm.specs.Meaning.{Between}
 
 -- The number of different values in column `j`

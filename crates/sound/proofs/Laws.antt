@@ -3,23 +3,24 @@
 use Rattle.std.specs.Prelude.{ℕ, ◌≤◌, ◌≡◌, List}
 use Rattle.std.proofs.Math.Nat.{zero-add}
 use Rattle.counting.specs.Terms.{Each}
-use Rattle.counting.specs.Laws.Members.{each_append, of-flat_map}
-use Rattle.counting.specs.Laws.Index.{of-flatten-map_from}
+use Rattle.counting.proofs.Laws.Members.{each_append, of-flat_map}
+use Rattle.counting.proofs.Laws.Index.{of-flatten-map_from}
 use Rattle.fixpoint.specs.Limits.{unsatisfiable, fixpoint}
 use Rattle.fixpoint.specs.Notions.{◌≼◌, Holds, Satisfies, Solution}
-use Rattle.fixpoint.specs.Laws.{round-laws}
+use Rattle.fixpoint.proofs.Laws.{round-laws}
 use Rattle.orm.specs.Diagram.{Diagram}
 use Rattle.orm.specs.Sets.{lower, upper, limits, limits_of_pred, limits_of_type, placed, upper_after_rounds, verdict_from}
 use Rattle.orm.specs.Population.{Population}
 use Rattle.orm.specs.Constraints.{sizes}
 use Rattle.orm.specs.Meaning.{Meets, Shaped, ValidPopulation}
 use Rattle.orm.specs.WellFormed.{WellFormed}
-use Rattle.orm.specs.Laws.Rounds.{Inside, inside-laws}
-use Rattle.sound.specs.Positions.{predicate-found}
-use Rattle.sound.specs.Bounds.{lower_≼, ≼_upper}
-use Rattle.sound.specs.PredicateLimits.{predicate-limits}
-use Rattle.sound.specs.TypeLimits.{type-limits}
-use Rattle.sound.specs.Small.{population-small}
+use Rattle.orm.proofs.Laws.Rounds.{inside-laws}
+use Rattle.orm.specs.Inside.{Inside}
+use Rattle.sound.proofs.Positions.{predicate-found}
+use Rattle.sound.proofs.Bounds.{lower_≼, ≼_upper}
+use Rattle.sound.proofs.PredicateLimits.{predicate-limits}
+use Rattle.sound.proofs.TypeLimits.{type-limits}
+use Rattle.sound.proofs.Small.{population-small}
 
 -- What the sizes `x` of a population are to the rounds
 pub record SizesLaws (d : Diagram) (x : List ℕ) : Type 0 where

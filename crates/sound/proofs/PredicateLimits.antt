@@ -15,14 +15,15 @@ use Rattle.counting.specs.Lists.{up_from, same, column, combination}
 use Rattle.counting.specs.Totals.{product_over}
 use Rattle.counting.specs.Distinct.{occurrences}
 use Rattle.counting.specs.Terms.{◌∈◌, ◌⊆◌}
-use Rattle.counting.specs.Laws.Distinct.{length-distinct-iff}
-use Rattle.counting.specs.Laws.Sizes.{distinct_le_length, no_repeats_le_distinct}
-use Rattle.counting.specs.Laws.Products.{distinct_le_product_over, rows_agree}
-use Rattle.counting.specs.Laws.Multiplicity.{occurrences_ge, occurrences_le}
-use Rattle.counting.specs.Laws.Instances.{eqb_decides, same_decides}
-use Rattle.counting.specs.Laws.Members.{each_nil, each-cons, each_append}
-use Rattle.counting.specs.Laws.Index.{At, at_in, at-below, below_at, of-flatten-map_from, each-from-at, each2_at}
-use Rattle.counting.specs.Laws.Range.{of-up_from, in_up_from}
+use Rattle.counting.proofs.Laws.Distinct.{length-distinct-iff}
+use Rattle.counting.proofs.Laws.Sizes.{distinct_le_length, no_repeats_le_distinct}
+use Rattle.counting.proofs.Laws.Products.{distinct_le_product_over, rows_agree}
+use Rattle.counting.proofs.Laws.Multiplicity.{occurrences_ge, occurrences_le}
+use Rattle.counting.proofs.Laws.Instances.{eqb_decides, same_decides}
+use Rattle.counting.proofs.Laws.Members.{each_nil, each-cons, each_append}
+use Rattle.counting.proofs.Laws.Index.{at_in, at-below, below_at, of-flatten-map_from, each-from-at, each2_at}
+use Rattle.counting.specs.Index.{At}
+use Rattle.counting.proofs.Laws.Range.{of-up_from, in_up_from}
 use Rattle.fixpoint.specs.Limits.{value_of}
 use Rattle.fixpoint.specs.Notions.{Holds, Satisfies}
 use Rattle.orm.specs.Diagram.{Role, Frequency, Predicate, Diagram, index, is_grouped, is_mandatory}
@@ -31,12 +32,12 @@ use Rattle.orm.specs.Population.{Population}
 use Rattle.orm.specs.Constraints.{members_of, sizes}
 use Rattle.orm.specs.Meaning.{Between, M5, M7, M8, M9, EachPred, Meets, Rows, Shaped}
 use Rattle.orm.specs.WellFormed.{WellFormed, PredForm, RoleForm, GroupForm}
-use Rattle.orm.specs.Laws.Select.{of-select, in_select, select-from}
-use Rattle.sound.specs.Each.{each-pred}
-use Rattle.sound.specs.Counts.{column_size, combination_size, product_le, combination_agree, column_le_rows, column_le_combination, combination_le_product, combination_le_column}
-use Rattle.orm.specs.Laws.Limits.{each-only_if}
-use Rattle.sound.specs.Satisfied.{at-most}
-use Rattle.sound.specs.Positions.{played-at, grouped-at, Located, Found, size-of-type, members-differ}
+use Rattle.orm.proofs.Laws.Select.{of-select, in_select, select-from}
+use Rattle.sound.proofs.Each.{each-pred}
+use Rattle.sound.proofs.Counts.{column_size, combination_size, product_le, combination_agree, column_le_rows, column_le_combination, combination_le_product, combination_le_column}
+use Rattle.orm.proofs.Laws.Limits.{each-only_if}
+use Rattle.sound.proofs.Satisfied.{at-most}
+use Rattle.sound.proofs.Positions.{played-at, grouped-at, Located, Found, size-of-type, members-differ}
 
 -- ---- the columns of a predicate's parts
 

@@ -7,15 +7,16 @@ use Rattle.std.proofs.Math.Decide.{ℕ_discrete}
 use Rattle.std.proofs.Math.ListN.{get_or}
 use Rattle.counting.specs.Lists.{column}
 use Rattle.counting.specs.Terms.{◌∈◌, ◌⊆◌, Each}
-use Rattle.counting.specs.Laws.Members.{each_append, each-cons, of-flat_map}
-use Rattle.counting.specs.Laws.Index.{At, at_in, in_at, at-get_or, at-below, below_at, of-flatten, each-from-at, each2_at}
+use Rattle.counting.proofs.Laws.Members.{each_append, each-cons, of-flat_map}
+use Rattle.counting.proofs.Laws.Index.{at_in, in_at, at-get_or, at-below, below_at, of-flatten, each-from-at, each2_at}
+use Rattle.counting.specs.Index.{At}
 use Rattle.orm.specs.Diagram.{ObjectType, Predicate, Diagram, index}
 use Rattle.orm.specs.Population.{Population, cells_of_type, cells_of_pred, cells}
 use Rattle.orm.specs.Constraints.{members_of}
 use Rattle.orm.specs.Meaning.{Between, M2, M3, M4, M6, M7, Meets, Rows, Shaped}
 use Rattle.orm.specs.WellFormed.{WellFormed, TypeForm}
-use Rattle.sound.specs.Each.{each-type, each-pred}
-use Rattle.sound.specs.Positions.{played-at, preds-length}
+use Rattle.sound.proofs.Each.{each-type, each-pred}
+use Rattle.sound.proofs.Positions.{played-at, preds-length}
 
 module _ (d : Diagram) (o : Population) (form : WellFormed d) (shaped : Shaped d o) (meets : Meets d o) where
   -- A root's values are in its range, a subtype's are its supertype's; the first argument is above the type's index

@@ -1,0 +1,11 @@
+pub mod Counts
+pub mod Segments
+pub mod Each
+pub mod Positions
+pub mod Bounds
+pub mod Unlimited
+pub mod Satisfied
+pub mod PredicateLimits
+pub mod TypeLimits
+pub mod Small
+pub mod Laws

@@ -7,9 +7,9 @@ use mathlib.Core.List.{List, [], ◌∷◌, map, map-append, flat_map, flatten, 
 use Rattle.std.proofs.Math.Nat.{suc_inj}
 use Rattle.std.proofs.Math.ListN.{length-append}
 use Rattle.std.proofs.lemmas.List.{length-map}
-use Rattle.counting.specs.Laws.Index.{At, first, later}
-use Rattle.counting.specs.Laws.Maps.{append_inj, map_congr}
-use Rattle.counting.specs.Laws.Members.{apart}
+use Rattle.counting.specs.Index.{At, first, later}
+use Rattle.counting.proofs.Laws.Maps.{append_inj, map_congr}
+use Rattle.counting.proofs.Laws.Members.{apart}
 use Rattle.counting.specs.Terms.{NoRepeats}
 use Rattle.orm.specs.Populate.{lookup}
 use Rattle.orm.specs.Sets.{Part}
@@ -63,6 +63,7 @@ module _ (f : Part → ℕ → List ℕ) where
 
   one-part : (g : ℕ → ℕ) (bs : List Part) (js : List ℕ) {k : ℕ} {b : Part} → Tupled bs js → map g (roles_of bs) ≡ tuples_of bs js → At b bs k
       → map g b.roles ≡ f b (get_or js k 0)
+  one-part g [] js {k = k} {b = b} s e h = elim h [ ]
   one-part g (b ∷ bs) [] s e h = absurd (omega arith)
   one-part g (b ∷ bs) (j ∷ js) s e (first q) = rw q (parted g b bs j js s e).0
   one-part g (b ∷ bs) (j ∷ js) s e (later h) = one-part g bs js (tupled_tail b bs j js s) (parted g b bs j js s e).1 h

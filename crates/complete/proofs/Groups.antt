@@ -8,26 +8,28 @@ use Rattle.std.proofs.Math.Nat.{zero-add}
 use native.Mathlib.Omega.{arith}
 use Rattle.std.proofs.Math.Dec.{eqb}
 use Rattle.std.proofs.Math.ListN.{get_or}
-use Rattle.counting.specs.Laws.Classes.{Classes, classes_distinct, classes_occurrences}
+use Rattle.counting.proofs.Laws.Classes.{Classes, classes_distinct, classes_occurrences}
 use Rattle.counting.specs.Distinct.{distinct, occurrences}
-use Rattle.counting.specs.Laws.Index.{At, each-from-at, in_at, of-map_from}
-use Rattle.counting.specs.Laws.Instances.{same_decides}
+use Rattle.counting.proofs.Laws.Index.{each-from-at, in_at, of-map_from}
+use Rattle.counting.specs.Index.{At}
+use Rattle.counting.proofs.Laws.Instances.{same_decides}
 use Rattle.counting.specs.Lists.{combination, map_from, same, up_from}
-use Rattle.counting.specs.Laws.Maps.{map_congr, map_from_congr}
-use Rattle.counting.specs.Laws.Members.{map_agree}
-use Rattle.counting.specs.Laws.Range.{in_below-iff}
+use Rattle.counting.proofs.Laws.Maps.{map_congr, map_from_congr}
+use Rattle.counting.proofs.Laws.Members.{map_agree}
+use Rattle.counting.proofs.Laws.Range.{in_below-iff}
 use Rattle.counting.specs.Terms.{◌∈◌}
-use Rattle.pairing.specs.Laws.Walks.{EvenShare}
+use Rattle.pairing.proofs.Laws.Walks.{EvenShare}
 use Rattle.orm.specs.Constraints.{Grouped, grouped}
 use Rattle.orm.specs.Diagram.{Diagram, Frequency, Role}
 use Rattle.orm.specs.Meaning.{Between, M9}
 use Rattle.orm.specs.Populate.{index_in_row, member_of, part_tuple, row, rows, size}
-use Rattle.orm.specs.Laws.Select.{in_select, of-select}
+use Rattle.orm.proofs.Laws.Select.{in_select, of-select}
 use Rattle.orm.specs.Sets.{Placed, group_part, group_roles, group_set, parts, placed, roles_in_group}
-use Rattle.complete.specs.Indices.{part-below, part-even, part-onto, part_tuple_lem, part_index}
-use Rattle.complete.specs.Parts.{group_in-parts, in_group_roles, of-group_roles}
-use Rattle.complete.specs.Rows.{value_in_lem, value-differ, same-part}
-use Rattle.complete.specs.Solved.{Solved, group-least, group-most, group-positive, pred-form}
+use Rattle.complete.proofs.Indices.{part-below, part-even, part-onto, part_tuple_lem, part_index}
+use Rattle.complete.proofs.Parts.{group_in-parts, in_group_roles, of-group_roles}
+use Rattle.complete.proofs.Rows.{value_in_lem, value-differ, same-part}
+use Rattle.complete.specs.Solved.{Solved}
+use Rattle.complete.proofs.Solved.{group-least, group-most, group-positive, pred-form}
 
 -- The shares of r among q, rounded down or up, are between the frequencies
 fmin-share : (r q f : ℕ) → 0 < q → 0 < f → q ≤ r / f → f ≤ r / q

@@ -4,13 +4,14 @@ use Rattle.std.proofs.Common.{sym, ap, ◌∙◌, zero-add, lt_of_lt_of_le, arit
 use mathlib.Core.List.Memᴰ
 use Rattle.std.proofs.lemmas.Simd.{map-map}
 use Rattle.std.proofs.Math.ListN.{length-map}
-use Rattle.counting.specs.Laws.Classes.{Classes, classes_distinct}
+use Rattle.counting.proofs.Laws.Classes.{Classes, classes_distinct}
 use Rattle.counting.specs.Distinct.{distinct}
-use Rattle.counting.specs.Laws.Index.{At, at-get_or, at_in, at-map_from, of-map_from}
-use Rattle.counting.specs.Laws.Instances.{eqb_decides}
+use Rattle.counting.proofs.Laws.Index.{at-get_or, at_in, at-map_from, of-map_from}
+use Rattle.counting.specs.Index.{At}
+use Rattle.counting.proofs.Laws.Instances.{eqb_decides}
 use Rattle.counting.specs.Lists.{column, map_from, up_from}
-use Rattle.counting.specs.Laws.Maps.{map_congr, map_from_congr}
-use Rattle.counting.specs.Laws.Range.{in_below-iff, length-up_from, map-below_no_repeats}
+use Rattle.counting.proofs.Laws.Maps.{map_congr, map_from_congr}
+use Rattle.counting.proofs.Laws.Range.{in_below-iff, length-up_from, map-below_no_repeats}
 use Rattle.counting.specs.Terms.{◌∈◌, ◌⊆◌}
 use Rattle.orm.specs.Constraints.{Played, member_count, members_of, played}
 use Rattle.orm.specs.Diagram.{Diagram, Role, index}
@@ -18,11 +19,12 @@ use Rattle.orm.specs.Meaning.{Between, M5, M6, M7, M8, M11}
 use Rattle.orm.specs.Populate.{index_in_row, member_of, population, row, rows, size, type_values}
 use Rattle.orm.specs.Sets.{Part, Placed, group_part, parts, placed, role_part}
 use Rattle.orm.specs.WellFormed.{RoleForm}
-use Rattle.complete.specs.Indices.{index_below, index-onto, part-below, part_tuple_lem, part_index, parts-differ, tuple_differ}
-use Rattle.complete.specs.Members.{member-differ, member_in_type, member-onto}
-use Rattle.complete.specs.Parts.{each_part, of-group_roles}
-use Rattle.complete.specs.Solved.{Solved, own-least, own-most, pred-form, role-least, role_mandatory, role-most, role-positive, role-type}
-use Rattle.complete.specs.Types.{members-of}
+use Rattle.complete.proofs.Indices.{index_below, index-onto, part-below, part_tuple_lem, part_index, parts-differ, tuple_differ}
+use Rattle.complete.proofs.Members.{member-differ, member_in_type, member-onto}
+use Rattle.complete.proofs.Parts.{each_part, of-group_roles}
+use Rattle.complete.specs.Solved.{Solved}
+use Rattle.complete.proofs.Solved.{own-least, own-most, pred-form, role-least, role_mandatory, role-most, role-positive, role-type}
+use Rattle.complete.proofs.Types.{members-of}
 
 module _ (d : Diagram) (c : List ℕ) (x : Placed) where
   -- In row i, the value of role j, which is `a`

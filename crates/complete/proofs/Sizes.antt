@@ -6,19 +6,20 @@ use mathlib.Core.List.{List, ◌++◌, map, map-map, map-append}
 use Rattle.std.proofs.Math.ListN.{length}
 use Rattle.counting.specs.Distinct.{distinct}
 use Rattle.counting.specs.Lists.{same, up_from}
-use Rattle.counting.specs.Laws.Maps.{map_congr, map-flat_map, map-map_from, map_from_congr, map_from-map}
-use Rattle.counting.specs.Laws.Range.{map-get_or-below, up_from_append}
+use Rattle.counting.proofs.Laws.Maps.{map_congr, map-flat_map, map-map_from, map_from_congr, map_from-map}
+use Rattle.counting.proofs.Laws.Range.{map-get_or-below, up_from_append}
 use Rattle.counting.specs.Terms.{◌∈◌}
 use Rattle.orm.specs.Constraints.{Grouped, Played, all_grouped, all_played, grouped, played, sizes}
 use Rattle.orm.specs.Diagram.{Diagram, all_groups, all_roles}
 use Rattle.orm.specs.Populate.{population, rows, size, type_values}
 use Rattle.orm.specs.Sets.{Placed, first_group, first_pred, first_role, placed}
-use Rattle.complete.specs.Covered.{all_played-placed}
-use Rattle.complete.specs.Place.{flatten-placed, group-sets, group_sets, own-sets, role-sets, role_sets}
-use Rattle.complete.specs.Rows.{played-rows, played_in, role-members, rows-length}
-use Rattle.complete.specs.Groups.{group-members, grouped-rows, grouped_in}
-use Rattle.complete.specs.Solved.{Solved, count, group-set}
-use Rattle.complete.specs.Types.{length-type_values}
+use Rattle.complete.proofs.Covered.{all_played-placed}
+use Rattle.complete.proofs.Place.{flatten-placed, group-sets, group_sets, own-sets, role-sets, role_sets}
+use Rattle.complete.proofs.Rows.{played-rows, played_in, role-members, rows-length}
+use Rattle.complete.proofs.Groups.{group-members, grouped-rows, grouped_in}
+use Rattle.complete.specs.Solved.{Solved}
+use Rattle.complete.proofs.Solved.{count, group-set}
+use Rattle.complete.proofs.Types.{length-type_values}
 
 map-below_append : (f : ℕ → ℕ) (n m : ℕ) → map f (up_from 0 n) ++ map f (up_from n m) ≡ map f (up_from 0 (n + m))
 map-below_append f n m = sym (map-append f (up_from 0 n) (up_from n m)) ∙ ap (map f) (sym (rw zero-add at (up_from_append 0 n m)))

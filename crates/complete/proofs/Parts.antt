@@ -13,20 +13,22 @@ use native.Mathlib.Omega.{arith}
 use borrow.Author.Tests.{eqb-true, eq-eqb}
 use Rattle.std.proofs.Math.Dec.{eqb}
 use Rattle.std.proofs.Math.ListN.{length}
-use Rattle.counting.specs.Laws.Index.{At, at-below, at_in, at-unique, below_at}
+use Rattle.counting.proofs.Laws.Index.{at-below, at_in, at-unique, below_at}
+use Rattle.counting.specs.Index.{At}
 use Rattle.counting.specs.Lists.{up_from}
-use Rattle.counting.specs.Laws.Maps.{flat_map_append, flat_map-map, flat_map-single}
-use Rattle.counting.specs.Laws.Sums.{product_over-map}
-use Rattle.counting.specs.Laws.Members.{each_nil, each-cons, each_map, no_repeats_append, no_repeats_flat_map}
-use Rattle.counting.specs.Laws.Range.{in_up_from, of-up_from, up_from_no_repeats}
+use Rattle.counting.proofs.Laws.Maps.{flat_map_append, flat_map-map, flat_map-single}
+use Rattle.counting.proofs.Laws.Sums.{product_over-map}
+use Rattle.counting.proofs.Laws.Members.{each_nil, each-cons, each_map, no_repeats_append, no_repeats_flat_map}
+use Rattle.counting.proofs.Laws.Range.{in_up_from, of-up_from, up_from_no_repeats}
 use Rattle.counting.specs.Terms.{NoRepeats, ◌∈◌}
 use Rattle.counting.specs.Totals.{product_over}
-use Rattle.pairing.specs.Laws.{Fits}
+use Rattle.pairing.proofs.Laws.{Fits}
 use Rattle.orm.specs.Diagram.{Diagram, Frequency, Role}
 use Rattle.orm.specs.Populate.{size}
-use Rattle.orm.specs.Laws.Select.{in_select, of-select, select_no_repeats}
+use Rattle.orm.proofs.Laws.Select.{in_select, of-select, select_no_repeats}
 use Rattle.orm.specs.Sets.{Part, Placed, group_part, group_roles, group_set, parts, placed, role_part, roles_in_group}
-use Rattle.complete.specs.Solved.{Solved, group-least, group-positive, group-product, own-positive, own-product, pred-form, role-group, role-own, role-positive}
+use Rattle.complete.specs.Solved.{Solved}
+use Rattle.complete.proofs.Solved.{group-least, group-positive, group-product, own-positive, own-product, pred-form, role-group, role-own, role-positive}
 
 -- ---- the roles of a group, and the roles in no group
 

@@ -3,8 +3,9 @@ use Rattle.std.specs.Prelude.{ℕ, suc, ◌+◌, ◌-◌, min, ◌≤◌, ◌<�
 use Rattle.std.proofs.Common.{sym, ◌∙◌, le_refl, arith}
 use mathlib.Core.List.{List, []}
 use Rattle.std.proofs.Math.Nat.{min-le_right, zero-add}
-use Rattle.counting.specs.Laws.Index.{At, at-below}
-use Rattle.counting.specs.Laws.Range.{get_or-map-up_from, in_up_from, length-up_from, of-up_from, up_from_no_repeats}
+use Rattle.counting.proofs.Laws.Index.{at-below}
+use Rattle.counting.specs.Index.{At}
+use Rattle.counting.proofs.Laws.Range.{get_or-map-up_from, in_up_from, length-up_from, of-up_from, up_from_no_repeats}
 use Rattle.counting.specs.Terms.{◌∈◌}
 use Rattle.orm.specs.Constraints.{members_of}
 use Rattle.orm.specs.Diagram.{Diagram, ObjectType, index}
@@ -12,10 +13,11 @@ use Rattle.orm.specs.Meaning.{EachType, HasRange, M1, M2, M3, M4}
 use Rattle.orm.specs.Populate.{population, size, type_values}
 use Rattle.orm.specs.Supertypes.{first_value, has_range}
 use Rattle.orm.specs.Sets.{upper_of_type}
-use Rattle.orm.specs.Laws.Decided.{has_range_decides}
-use Rattle.orm.specs.Laws.Supertypes.{super_at_nth, form-supers, first-super, range_first}
-use Rattle.complete.specs.Place.{each-type}
-use Rattle.complete.specs.Solved.{Solved, type-form, type-least, type-most, type-super}
+use Rattle.orm.proofs.Laws.Decided.{has_range_decides}
+use Rattle.orm.proofs.Laws.Supertypes.{super_at_nth, form-supers, first-super, range_first}
+use Rattle.complete.proofs.Place.{each-type}
+use Rattle.complete.specs.Solved.{Solved}
+use Rattle.complete.proofs.Solved.{type-form, type-least, type-most, type-super}
 
 -- ---- values
 

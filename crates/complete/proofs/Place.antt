@@ -5,9 +5,10 @@ use mathlib.Core.List.Memᴰ
 use mathlib.Core.List.Memᴰ.{head as here}
 use mathlib.Core.List.Memᴰ.{tail as there}
 use mathlib.Core.List.{List, [], ◌∷◌, ◌++◌, map, flat_map, flatten, zip_with}
-use Rattle.counting.specs.Laws.Index.{At, at_append_cases, at_append_left, at_append_right, first, later}
+use Rattle.counting.proofs.Laws.Index.{at_append_cases, at_append_left, at_append_right}
+use Rattle.counting.specs.Index.{At, first, later}
 use Rattle.counting.specs.Lists.{up_from}
-use Rattle.counting.specs.Laws.Range.{up_from_append}
+use Rattle.counting.proofs.Laws.Range.{up_from_append}
 use Rattle.counting.specs.Terms.{◌∈◌}
 use Rattle.orm.specs.Diagram.{ObjectType, Predicate, Role}
 use Rattle.orm.specs.Meaning.{EachPred, EachType}
@@ -48,6 +49,7 @@ placed_at r p q (y ∷ ps) (there m) = let (k, h, e) = placed_at (suc r) _ _ ps 
 pub role-placed : (r p q : ℕ) (ps : List Predicate) {k : ℕ} {a : Role} → At a (flat_map (λ (x : Predicate). x.roles) ps) k
     → (x : Placed) × (x ∈ placed_from r p q ps) × (j : ℕ) × At a x.predicate.roles j × (p + k ≡ x.roles + j)
 unfolding placed_from flat_map
+role-placed r p q [] {k = k} {a = a} h = elim h [ ]
 role-placed r p q (y ∷ ps) {k} h =
     ⊎_elim (λ l. (record { predicate = y; own = r; roles = p; groups = q }, here refl, k, l, refl))
     (λ (i, e, l). let (x, m, j, l', e') = role-placed (suc r) (p + length y.roles) (q + length y.groups) ps l in

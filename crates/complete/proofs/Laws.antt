@@ -6,23 +6,24 @@
 use Rattle.std.specs.Prelude.{ℕ, ◌≡◌, refl, List}
 use Rattle.counting.specs.Terms.{◌∈◌}
 use Rattle.fixpoint.specs.Limits.{fixpoint}
-use Rattle.fixpoint.specs.Laws.Order.{≼_trans}
+use Rattle.fixpoint.proofs.Laws.Order.{≼_trans}
 use Rattle.orm.specs.Constraints.{sizes}
 use Rattle.orm.specs.Diagram.{Diagram, Predicate}
 use Rattle.orm.specs.Meaning.{EachPred, Meets, ValidPopulation}
 use Rattle.orm.specs.Populate.{population, rows}
 use Rattle.orm.specs.Population.{cells}
 use Rattle.orm.specs.Sets.{Placed, placed, verdict_from}
-use Rattle.orm.specs.Laws.Rounds.{Inside, inside-laws}
-use Rattle.orm.specs.Laws.Shape.{population-shaped}
+use Rattle.orm.proofs.Laws.Rounds.{inside-laws}
+use Rattle.orm.specs.Inside.{Inside}
+use Rattle.orm.proofs.Laws.Shape.{population-shaped}
 use Rattle.orm.specs.WellFormed.{WellFormed}
-use Rattle.complete.specs.Place.{each-pred}
-use Rattle.complete.specs.Sizes.{sizes_again}
+use Rattle.complete.proofs.Place.{each-pred}
+use Rattle.complete.proofs.Sizes.{sizes_again}
 use Rattle.complete.specs.Solved.{Solved}
-use Rattle.complete.specs.Types
-use Rattle.complete.specs.Rows
-use Rattle.complete.specs.Groups
-use Rattle.complete.specs.Covered
+use Rattle.complete.proofs.Types
+use Rattle.complete.proofs.Rows
+use Rattle.complete.proofs.Groups
+use Rattle.complete.proofs.Covered
 
 -- What the population made from the sizes `c` is
 pub record PopulationLaws (d : Diagram) (c : List ℕ) : Type 0 where

@@ -3,16 +3,17 @@ use Rattle.std.specs.Prelude.{ℕ, ◌+◌, ◌<◌, ◌≡◌, List, map, get_o
 use Rattle.std.proofs.Math.Path.{sym}
 use Rattle.std.proofs.Common.{ap, ◌∙◌, le_refl, eqb-true, ext_get_or}
 use Rattle.std.proofs.Math.ListN.{length, length-map}
-use Rattle.counting.specs.Laws.Count.{count-pos}
-use Rattle.counting.specs.Laws.Index.{At, at-below, at-get_or, at_in, at_map, below_at, in_at}
+use Rattle.counting.proofs.Laws.Count.{count-pos}
+use Rattle.counting.proofs.Laws.Index.{at-below, at-get_or, at_in, at_map, below_at, in_at}
+use Rattle.counting.specs.Index.{At}
 use Rattle.counting.specs.Terms.{◌∈◌}
-use Rattle.pairing.specs.Laws.{Fits, tuples-below, tuples-cover, tuples-differ, tuples-even, tuples-length}
-use Rattle.pairing.specs.Laws.Walks.{EvenShare, hits}
+use Rattle.pairing.proofs.Laws.{Fits, tuples-below, tuples-cover, tuples-differ, tuples-even, tuples-length}
+use Rattle.pairing.proofs.Laws.Walks.{EvenShare, hits}
 use Rattle.orm.specs.Diagram.{Diagram, Role}
 use Rattle.orm.specs.Populate.{index_in_row, part_tuple, parts_of_row, size}
 use Rattle.orm.specs.Sets.{Part, Placed, parts, placed}
-use Rattle.complete.specs.Lookup.{lookup-part}
-use Rattle.complete.specs.Parts.{part-fits, parts_no_repeats, role-part, rows_fit}
+use Rattle.complete.proofs.Lookup.{lookup-part}
+use Rattle.complete.proofs.Parts.{part-fits, parts_no_repeats, role-part, rows_fit}
 use Rattle.complete.specs.Solved.{Solved}
 
 -- In row i, the index of the tuple of part k

@@ -3,24 +3,26 @@ use Rattle.std.specs.Prelude.{ℕ, suc, ◌+◌, ◌-◌, ◌≤◌, ◌<◌, �
 use Rattle.std.proofs.Common.{sym, ◌∙◌, zero-add, arith, eqb-true}
 use mathlib.Core.List.Memᴰ
 use mathlib.Core.List.{List, flat_map}
-use Rattle.counting.specs.Laws.Index.{At, at_in, at-map_from}
+use Rattle.counting.proofs.Laws.Index.{at_in, at-map_from}
+use Rattle.counting.specs.Index.{At}
 use Rattle.counting.specs.Lists.{map_from}
-use Rattle.counting.specs.Laws.Members.{in_flat_map}
-use Rattle.counting.specs.Laws.Range.{in_below-iff}
+use Rattle.counting.proofs.Laws.Members.{in_flat_map}
+use Rattle.counting.proofs.Laws.Range.{in_below-iff}
 use Rattle.counting.specs.Terms.{NoRepeats, ◌∈◌}
 use Rattle.orm.specs.Constraints.{Played, all_played, played}
 use Rattle.orm.specs.Diagram.{Diagram, ObjectType, Role, all_roles}
 use Rattle.orm.specs.Meaning.{M10}
 use Rattle.orm.specs.Supertypes.{first_value}
 use Rattle.orm.specs.Populate.{population, rows, size, taken_before, type_values}
-use Rattle.orm.specs.Laws.Select.{of-select, select_no_repeats}
+use Rattle.orm.proofs.Laws.Select.{of-select, select_no_repeats}
 use Rattle.orm.specs.Sets.{Placed, first_group, first_pred, first_role, placed, roles_of_type}
-use Rattle.complete.specs.Indices.{index-onto}
-use Rattle.complete.specs.Members.{member-taken, taken-by}
-use Rattle.complete.specs.Place.{flatten-placed, role-placed}
-use Rattle.complete.specs.Rows.{played-rows, played_in, value_in}
-use Rattle.complete.specs.Solved.{Solved, type-sum}
-use Rattle.complete.specs.Types.{values-iff}
+use Rattle.complete.proofs.Indices.{index-onto}
+use Rattle.complete.proofs.Members.{member-taken, taken-by}
+use Rattle.complete.proofs.Place.{flatten-placed, role-placed}
+use Rattle.complete.proofs.Rows.{played-rows, played_in, value_in}
+use Rattle.complete.specs.Solved.{Solved}
+use Rattle.complete.proofs.Solved.{type-sum}
+use Rattle.complete.proofs.Types.{values-iff}
 
 module _ (d : Diagram) (c : List ℕ) where
   pub all_played-placed : all_played d (population d c) ≡ flat_map (λ (x : Placed). played x.predicate (rows d c x)) (placed d)

@@ -8,16 +8,16 @@ use mathlib.Core.List.{List, [], ◌∷◌}
 use Rattle.std.proofs.Math.Nat.{mod-eq_of_lt}
 use Rattle.std.proofs.Math.Decide.{dec_le}
 use native.Mathlib.Omega.{arith}
-use Rattle.counting.specs.Laws.Members.{apart}
+use Rattle.counting.proofs.Laws.Members.{apart}
 use Rattle.counting.specs.Terms.{NoRepeats, ◌∈◌}
 use Rattle.counting.specs.Totals.{sum_over}
-use Rattle.pairing.specs.Laws.Mod.{add-right_mod_cancel}
-use Rattle.pairing.specs.Laws.Walks.{once_turned}
+use Rattle.pairing.proofs.Laws.Mod.{add-right_mod_cancel}
+use Rattle.pairing.proofs.Laws.Walks.{once_turned}
 use Rattle.orm.specs.Diagram.{Diagram, Role, index}
 use Rattle.orm.specs.Supertypes.{first_value}
 use Rattle.orm.specs.Populate.{member_of, size, taken_before, type_values}
 use Rattle.orm.specs.Sets.{roles_of_type}
-use Rattle.complete.specs.Types.{values-iff}
+use Rattle.complete.proofs.Types.{values-iff}
 
 module _ (d : Diagram) (c : List ℕ) (p : ℕ) (r : Role) where
   abbrev player : ℕ

@@ -1,0 +1,12 @@
+pub mod Place
+pub mod Types
+pub mod Members
+pub mod Lookup
+pub mod Parts
+pub mod Indices
+pub mod Rows
+pub mod Groups
+pub mod Covered
+pub mod Sizes
+pub mod Laws
+pub mod Solved

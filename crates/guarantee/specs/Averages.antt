@@ -1,5 +1,5 @@
 -- S-14, 'Average use on the panel' (document 02), as one statement over the definitions of the calls: the record `Averages` at the end of this file,
--- with its one proof in `Averages/Proof`. The request, quoted at its fields:
+-- with its one proof in `proofs/Averages/Proof`. The request, quoted at its fields:
 --
 --     For each group give r divided by q, both as settled: a whole number where it divides evenly, otherwise the 64-bit float from one division of
 --     the two sizes (IEEE 754, nearest even). In each case r is at least FMIN times q and at most FMAX times q, as whole numbers. This covers each
@@ -11,7 +11,7 @@ use Rattle.std.specs.Float.{nan, binary64}
 use Rattle.std.specs.Float.Ieee.{round}
 use Rattle.counting.specs.Lists.{up_from}
 use Rattle.counting.specs.Terms.{◌∈◌}
-use Rattle.counting.specs.Laws.Index.{At}
+use Rattle.counting.specs.Index.{At}
 use Rattle.orm.specs.Diagram.{Diagram, all_groups}
 use Rattle.orm.specs.Text.{table_line}
 use Rattle.orm.specs.Sets.{Placed, placed, group_set, first_group}
@@ -20,7 +20,6 @@ use Rattle.orm.specs.Outcome.{refused, accepted}
 use Rattle.orm.specs.Calls.{diagram_in}
 use Rattle.orm.specs.Average.{PlacedGroup, placed_groups, Average, whole, fraction, float_quotient, average_of, average_call}
 use Rattle.guarantee.specs.Guarantee.{NoPopulation, EmptiedAt, Populated, FaultOfForm}
-pub mod Proof
 
 -- A group and its own predicate: the group stands at this place among those of the predicate, and both have the sets that the limits have for them
 pub record OwnPredicate (d : Diagram) (g : PlacedGroup) : Type 0 where

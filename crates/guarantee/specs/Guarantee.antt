@@ -1,4 +1,4 @@
--- Demand 3 as one statement: the record `Guarantee` at the end of this file, with its one proof in `Proof`. The demand, quoted at its fields:
+-- Demand 3 as one statement: the record `Guarantee` at the end of this file, with its one proof in `proofs/Guarantee`. The demand, quoted at its fields:
 --
 --     This holds for every diagram, table or text, with no fault of form (refusals 1 to 6). From such a text reading makes the table with the
 --     same numbers, if the lent space is long enough. After every number of rounds, none included, no population that meets all the diagram's

@@ -1,5 +1,5 @@
 -- S-12, 'A table of common multiples' (document 02), as one statement over the definitions: the record `Multiples` at the end of this file, with its one
--- proof in `Multiples/Proof`. The request, quoted at its fields:
+-- proof in `proofs/Multiples/Proof`. The request, quoted at its fields:
 --
 --     Ship a constant table of the least common multiples of 1..64 with 1..64, 4,096 numbers, the row by the first. A small program generates it, and
 --     its output, a line for each row with commas between, is the shipped source's numbers. Pairing uses the table where both sizes are 1 to 64, and
@@ -10,10 +10,9 @@
 use Rattle.std.specs.Prelude.{ℕ, ◌+◌, ◌/◌, ◌%◌, ◌≡◌, [], length}
 use Rattle.pairing.specs.Pairing.{right_of}
 use Rattle.pairing.specs.Multiples.{multiples, multiple_at, Listed, pairing_multiple}
-use Rattle.pairing.specs.Laws.{IsLcm}
+use Rattle.pairing.specs.Divisors.{IsLcm}
 use Rattle.orm.specs.Reader.{cut}
 use Rattle.orm.specs.MultiplesText.{multiples_text, line_numbers}
-pub mod Proof
 
 pub record Multiples : Type 0 where
   -- 'a constant table of the least common multiples of 1..64 with 1..64, .. the row by the first': each is a common multiple, which divides every other

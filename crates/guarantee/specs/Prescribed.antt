@@ -1,5 +1,5 @@
 -- S-1, 'A book with exactly so many' (document 02), as one statement over the definitions of the calls: the record `Prescribed` at the end of this file,
--- with its one proof in `Prescribed/Proof`. The request, quoted at its fields:
+-- with its one proof in `proofs/Prescribed/Proof`. The request, quoted at its fields:
 --
 --     Given a set number and a wanted size, produce a population (in these requests: one that meets all its diagram's constraints) in which that
 --     set has just that size, the others as large as they can then be, or say that none exists. Before the rounds the set's floor becomes the
@@ -22,7 +22,6 @@ use Rattle.orm.specs.Prescribe.{raised_at, capped_at, prescribe_call}
 use Rattle.orm.specs.Meaning.{Between, ValidPopulation}
 use Rattle.guarantee.specs.Settling.{RefusesBy, SettledFrom, Writes}
 use Rattle.guarantee.specs.Guarantee.{NoPopulation, Populated, FaultOfForm}
-pub mod Proof
 
 -- 'a population (in these requests: one that meets all its diagram's constraints) in which that set has just that size'; sets count from 1
 pub record Having (d : Diagram) (number wanted : ℕ) (s : List ℕ) : Type 0 where

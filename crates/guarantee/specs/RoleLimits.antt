@@ -1,5 +1,5 @@
 -- S-8, 'Limits on a role' (document 02), as one statement over the definitions of the calls: the record `RoleLimits` at the end of this file, with its
--- one proof in `RoleLimits/Proof`. The request, quoted at its fields:
+-- one proof in `proofs/RoleLimits/Proof`. The request, quoted at its fields:
 --
 --     In files that begin `diagram=2` a role line has two more numbers after GROUP, RMIN and RMAX, 1..4096, the fewest and most different members in
 --     that role. They become the role's floor and part of its starting ceiling. K11: role members number RMIN..RMAX. In `diagram=1` they read as 1
@@ -10,7 +10,7 @@
 use Rattle.std.specs.Prelude.{ℕ, suc, ◌+◌, min, ◌≤◌, ◌<◌, ◌≡◌, true, length, get_or, take}
 use mathlib.Core.List.{List, [], ◌∷◌, ◌++◌, map, flat_map}
 use Rattle.counting.specs.Terms.{Each, EachFrom, ◌∈◌}
-use Rattle.counting.specs.Laws.Index.{At}
+use Rattle.counting.specs.Index.{At}
 use Rattle.orm.specs.Diagram.{ObjectType, Role, Predicate, Diagram, LineKind, Line, diagram_line, types_line, preds_line, limited_role_line}
 use Rattle.orm.specs.Diagram.{line_of_count, line_of_type, line_of_role, lines_of_pred, role_line_of, all_roles, table}
 use Rattle.orm.specs.Reader.{Cut, cut}
@@ -32,9 +32,6 @@ use Rattle.reading.specs.Kinds.{HeadForm}
 use Rattle.guarantee.specs.Guarantee.{Populated, RefusesEmptied}
 pub mod Before
 pub mod CallsBefore
-pub mod Kept
-pub mod Refused
-pub mod Proof
 use Rattle.guarantee.specs.RoleLimits.Before.{diagram_in_before, lower_before, upper_before, answer_before}
 use Rattle.guarantee.specs.RoleLimits.CallsBefore.{read_call_before, write_call_before, check_call_before, populate_call_before, validate_call_before, program_before}
 

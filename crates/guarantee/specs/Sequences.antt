@@ -1,5 +1,5 @@
 -- S-13, 'Limits in any sequence' (document 02), as one statement over the definitions of the calls: the record `Sequences` at the end of this file, with
--- its one proof in `Sequences/Proof`. The request, quoted at its fields:
+-- its one proof in `proofs/Sequences/Proof`. The request, quoted at its fields:
 --
 --     The panel is to apply one limit at a time when a user edits. Show that for every sequence of single limits from the starting ceilings, each
 --     lowering one ceiling to that limit, carried on until no limit lowers any, the end ceilings are the same. A diagram with no fault of form is
@@ -20,7 +20,6 @@ use Rattle.orm.specs.Calls.{diagram_in, check_call, populate_call}
 use Rattle.orm.specs.SingleLimits.{start_call, lower_call, survey_call}
 use Rattle.guarantee.specs.Settling.{RefusesBy}
 use Rattle.guarantee.specs.Guarantee.{Populated, FaultOfForm}
-pub mod Proof
 
 -- 'from the starting ceilings': the upper bounds after these limits, in this order
 abbrev pub upper_after_steps : Diagram → List ℕ → List ℕ

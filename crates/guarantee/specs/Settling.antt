@@ -7,6 +7,10 @@ use Rattle.orm.specs.Diagram.{Diagram}
 use Rattle.orm.specs.Sets.{limits, verdict_from}
 use Rattle.orm.specs.Outcome.{Outcome, refused, accepted, buffer_after, Sized, written, handed_back}
 
+-- What a call that runs the rounds hands back
+abbrev pub sized : ℕ → List ℕ → Outcome Sized
+sized n w = accepted (record { rounds = n; result = w })
+
 -- 'the set and round of document 01', of rounds from these bounds; the place is the set's number, from 1
 pub record EmptiedFrom (d : Diagram) (low high : List ℕ) (place round : ℕ) : Type 0 where
   pub set : ℕ

@@ -1,5 +1,5 @@
 -- S-5, 'Ranges on subtypes' (document 02), as one statement over the definitions of the calls: the record `SubtypeRanges` at the end of this file, with
--- its one proof in `SubtypeRanges/Proof`. The request, quoted at its fields:
+-- its one proof in `proofs/SubtypeRanges/Proof`. The request, quoted at its fields:
 --
 --     A subtype may now give FIRST and LAST if FIRST is its root's FIRST and LAST is not below FIRST, nor above the LAST of the nearest type above
 --     it that gives one. Its starting ceiling is then also at most LAST - FIRST + 1, and K3 covers it. A pair 0,0 on a subtype still means none,
@@ -9,7 +9,7 @@
 -- `Before` and `CallsBefore` have the rule without it, that of document 01, for files of both kinds (S-8).
 use Rattle.std.specs.Prelude.{ℕ, suc, ◌+◌, ◌-◌, min, ◌≤◌, ◌<◌, ◌≡◌, ◌↔◌, true, List, [], ◌∷◌, ◌++◌, map, length, get_or, take}
 use Rattle.counting.specs.Terms.{EachFrom, ◌∈◌}
-use Rattle.counting.specs.Laws.Index.{At}
+use Rattle.counting.specs.Index.{At}
 use Rattle.orm.specs.Diagram.{ObjectType, Diagram, LineKind, Line, diagram_line, types_line, type_line, line_of_count, line_of_type, index}
 use Rattle.orm.specs.Supertypes.{first_at, last_at, is_root_at, root, has_range_at, nearest}
 use Rattle.orm.specs.Reader.{Cut}
@@ -24,15 +24,12 @@ use Rattle.orm.specs.Calls.{diagram_in, population_in, read_call, write_call, ch
 use Rattle.orm.specs.Program.{program}
 use Rattle.orm.specs.Meaning.{Between, HasRange, ValidPopulation}
 use Rattle.orm.specs.WellFormed.{TypeForm, WellFormed}
-use Rattle.orm.specs.Laws.Supertypes.{Reached}
+use Rattle.orm.specs.Climbs.{Reached}
 use Rattle.reading.specs.Exact.{written}
 use Rattle.reading.specs.Cutting.{text_form, table_form}
 use Rattle.guarantee.specs.Guarantee.{Populated}
 pub mod Before
 pub mod CallsBefore
-pub mod Kept
-pub mod Refused
-pub mod Proof
 use Rattle.guarantee.specs.SubtypeRanges.Before.{WithoutRanges, diagram_in01, upper_in01, constraints_in01}
 use Rattle.guarantee.specs.SubtypeRanges.CallsBefore.{read_call_in01, write_call_in01, check_call_in01, populate_call_in01, validate_call_in01, program_in01}
 

@@ -1,12 +1,12 @@
 -- S-2, 'Subtypes that have no table of their own' (document 02), as one statement over the definitions of the calls: the record `Subtypes` at the end of
--- this file, with its one proof in `Subtypes/Proof`. The request, quoted at its fields:
+-- this file, with its one proof in `proofs/Subtypes/Proof`. The request, quoted at its fields:
 --
 --     From now on a non-independent subtype that plays no role is free of the sum limit and of K10. A non-independent root without roles is
 --     refused as before. Case P8 is kept, and the refusal theorem is over the amended constraints.
 use Rattle.std.specs.Prelude.{ℕ, suc, min, ◌≤◌, ◌≡◌, Bool, true, false, not, List, [], ◌∷◌, ◌++◌, eqb}
 use Rattle.counting.specs.Distinct.{within}
 use Rattle.counting.specs.Terms.{◌∈◌}
-use Rattle.counting.specs.Laws.Index.{At}
+use Rattle.counting.specs.Index.{At}
 use Rattle.fixpoint.specs.Limits.{Limit, sum}
 use Rattle.orm.specs.Diagram.{ObjectType, Diagram, is_root, is_independent, index, all_roles}
 use Rattle.orm.specs.Text.{table_line}
@@ -19,9 +19,8 @@ use Rattle.orm.specs.Calls.{diagram_in, check_call, populate_call, validate_call
 use Rattle.orm.specs.Program.{program}
 use Rattle.orm.specs.Meaning.{Plays, MustPlay}
 use Rattle.orm.specs.WellFormed.{WellFormed}
-use Rattle.orm.specs.Cases.Marked.{text, sample_with}
+use Rattle.orm.specs.Sample.{text, sample_with}
 use Rattle.guarantee.specs.Guarantee.{Populated, RefusesEmptied}
-pub mod Proof
 
 -- 'a non-independent subtype that plays no role'
 pub record FreeSubtype (d : Diagram) (number : ℕ) (t : ObjectType) : Type 0 where

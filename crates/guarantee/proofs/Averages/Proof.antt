@@ -7,9 +7,9 @@ use Rattle.std.proofs.lemmas.Bool.{eqb-false}
 use Rattle.std.specs.Float.{binary64}
 use Rattle.std.specs.Float.Ieee.{round}
 use Rattle.counting.specs.Terms.{◌∈◌}
-use Rattle.counting.specs.Laws.Index.{of-map_from, each-from-at}
-use Rattle.counting.specs.Laws.Members.{each-get_or, of-flat_map}
-use Rattle.counting.specs.Laws.Quotients.{rounds-once, rounded-number}
+use Rattle.counting.proofs.Laws.Index.{of-map_from, each-from-at}
+use Rattle.counting.proofs.Laws.Members.{each-get_or, of-flat_map}
+use Rattle.counting.proofs.Laws.Quotients.{rounds-once, rounded-number}
 use Rattle.fixpoint.specs.Limits.{Verdict, unsatisfiable, fixpoint}
 use Rattle.orm.specs.Diagram.{Diagram}
 use Rattle.orm.specs.Text.{table_line}
@@ -19,16 +19,17 @@ use Rattle.orm.specs.Outcome.{Outcome, refused, accepted, ◌>>=◌, Sized}
 use Rattle.orm.specs.Calls.{diagram_in, sizes_by, sizes_of, check_call}
 use Rattle.orm.specs.Average.{PlacedGroup, groups_of_placed, placed_groups, group_in, Average, whole, fraction, float_quotient, average_of, average_call}
 use Rattle.orm.specs.WellFormed.{GroupForm, WellFormed}
-use Rattle.orm.specs.Laws.Average.{no_number, numbers-are, frequencies-are, numbered-placed, is-group, no_group}
-use Rattle.orm.specs.Laws.Bounds.{upper-small}
-use Rattle.orm.specs.Laws.Rounds.{own-bounds}
+use Rattle.orm.proofs.Laws.Average.{no_number, numbers-are, frequencies-are, numbered-placed, is-group, no_group}
+use Rattle.orm.proofs.Laws.Bounds.{upper-small}
+use Rattle.orm.proofs.Laws.Rounds.{own-bounds}
 use Rattle.reading.specs.Laws.{table-accepted-iff}
-use Rattle.complete.specs.Laws.{fixpoint-solved}
-use Rattle.complete.specs.Solved.{Solved, group-set, pred-form, group-positive, group-most, group-least}
+use Rattle.complete.proofs.Laws.{fixpoint-solved}
+use Rattle.complete.specs.Solved.{Solved}
+use Rattle.complete.proofs.Solved.{group-set, pred-form, group-positive, group-most, group-least}
 use Rattle.guarantee.specs.Guarantee.{NoPopulation, RefusesEmptied}
-use Rattle.guarantee.specs.Inside.{none-emptied}
-use Rattle.guarantee.specs.Ends.{check-ends, settled-unsatisfiable}
-use Rattle.guarantee.specs.Proof.{none-fits, fault-of-form, guarantee}
+use Rattle.guarantee.proofs.Inside.{none-emptied}
+use Rattle.guarantee.proofs.Ends.{check-ends, settled-unsatisfiable}
+use Rattle.guarantee.proofs.Guarantee.{none-fits, fault-of-form, guarantee}
 use Rattle.guarantee.specs.Averages.{OwnPredicate, Says, Averaged, AverageIn, Averages}
 
 -- ---- a group and its predicate

@@ -8,9 +8,10 @@ use Rattle.orm.specs.Sets.{verdict_from}
 use Rattle.orm.specs.Constraints.{sizes}
 use Rattle.orm.specs.Meaning.{ValidPopulation}
 use Rattle.orm.specs.WellFormed.{WellFormed}
-use Rattle.orm.specs.Laws.Rounds.{Inside, inside-laws}
-use Rattle.sound.specs.Laws.{valid-laws}
-use Rattle.complete.specs.Laws.{PopulationLaws, population-laws, fixpoint-solved}
+use Rattle.orm.proofs.Laws.Rounds.{inside-laws}
+use Rattle.orm.specs.Inside.{Inside}
+use Rattle.sound.proofs.Laws.{valid-laws}
+use Rattle.complete.proofs.Laws.{PopulationLaws, population-laws, fixpoint-solved}
 
 -- Sizes between the bounds
 pub record Fits (low high x : List ℕ) : Type 0 where

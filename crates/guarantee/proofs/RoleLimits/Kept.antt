@@ -11,7 +11,7 @@ use borrow.Author.Tests.{eqb-true, eqb-false}
 use Rattle.std.proofs.Math.Dec.{eqb}
 use Rattle.std.proofs.Math.ListN.{length}
 use Rattle.counting.specs.Lists.{up_from}
-use Rattle.counting.specs.Laws.Maps.{map_congr}
+use Rattle.counting.proofs.Laws.Maps.{map_congr}
 use Rattle.fixpoint.specs.Limits.{run}
 use Rattle.orm.specs.Diagram.{ObjectType, Role, Frequency, Predicate, Diagram, LineKind, diagram_line, types_line, preds_line, pred_line, role_line, freq_line, end_line}
 use Rattle.orm.specs.Diagram.{limits_roles, role_line_of, all_roles, all_groups}
@@ -23,11 +23,11 @@ use Rattle.orm.specs.Calls.{diagram_in}
 use Rattle.orm.specs.Sets.{lower, upper_of_type, upper_of_role, upper, limits, verdict, verdict_from}
 use Rattle.orm.specs.Population.{Population}
 use Rattle.orm.specs.Constraints.{constraints, answer}
-use Rattle.orm.specs.Laws.Readers.{bind_cases}
+use Rattle.orm.proofs.Laws.Readers.{bind_cases}
 use Rattle.orm.specs.Meaning.{Between}
 use Rattle.orm.specs.WellFormed.{WellFormed}
 use Rattle.reading.specs.Lines.{Cuts, tested_decides}
-use Rattle.sound.specs.Unlimited.{unlimited-answer}
+use Rattle.sound.proofs.Unlimited.{unlimited-answer}
 use Rattle.guarantee.specs.RoleLimits.Before.{role_before, role_tests_before, first_line_before, predicate_before, predicates_before, diagram_lines_before}
 use Rattle.guarantee.specs.RoleLimits.Before.{whole_diagram_before, reading_before, diagram_in_before, lower_before, upper_before, verdict_before}
 use Rattle.guarantee.specs.RoleLimits.Before.{constraints_before, answer_before}

@@ -6,9 +6,10 @@ use Rattle.std.proofs.Math.Path.{fun_ext}
 use Rattle.std.proofs.lemmas.Bool.{false≢true}
 use Rattle.std.proofs.Math.Option.{some}
 use Rattle.counting.specs.Distinct.{all}
-use Rattle.counting.specs.Laws.Distinct.{all-fails}
+use Rattle.counting.proofs.Laws.Distinct.{all-fails}
 use Rattle.counting.specs.Terms.{◌∈◌}
-use Rattle.counting.specs.Laws.Index.{At, at-below, at-get_or, below_at, each-from-at}
+use Rattle.counting.proofs.Laws.Index.{at-below, at-get_or, below_at, each-from-at}
+use Rattle.counting.specs.Index.{At}
 use Rattle.fixpoint.specs.Limits.{run}
 use Rattle.orm.specs.Diagram.{ObjectType, Diagram, LineKind, table}
 use Rattle.orm.specs.Supertypes.{first_value, has_range, last_value}
@@ -24,21 +25,22 @@ use Rattle.orm.specs.Calls.{diagram_in, sizes_of, population_in, read_call, writ
 use Rattle.orm.specs.Program.{output, reported, program}
 use Rattle.orm.specs.Meaning.{Between, M3}
 use Rattle.orm.specs.WellFormed.{TypeForm, WellFormed}
-use Rattle.orm.specs.Laws.Decided.{in_range_decides, has_range_decides}
-use Rattle.orm.specs.Laws.Named.{Fails, named-K3}
-use Rattle.orm.specs.Laws.Rounds.{own-bounds}
-use Rattle.orm.specs.Laws.Supertypes.{form-supers, root-reached, nearest-reached}
+use Rattle.orm.proofs.Laws.Decided.{in_range_decides, has_range_decides}
+use Rattle.orm.proofs.Laws.Named.{Fails, named-K3}
+use Rattle.orm.proofs.Laws.Rounds.{own-bounds}
+use Rattle.orm.proofs.Laws.Supertypes.{form-supers, root-reached, nearest-reached}
 use Rattle.reading.specs.Laws.{table-accepted-iff}
 use Rattle.reading.specs.Cutting.{text_form, table_form, text_cuts, table_cuts}
 use Rattle.reading.specs.Kinds.{values_decides}
 use Rattle.reading.specs.Types.{all-types-iff}
-use Rattle.sound.specs.Each.{each-type}
-use Rattle.complete.specs.Solved.{Solved, type-most, upper-type}
-use Rattle.complete.specs.Laws.{fixpoint-solved}
+use Rattle.sound.proofs.Each.{each-type}
+use Rattle.complete.specs.Solved.{Solved}
+use Rattle.complete.proofs.Solved.{type-most, upper-type}
+use Rattle.complete.proofs.Laws.{fixpoint-solved}
 use Rattle.guarantee.specs.SubtypeRanges.Before.{WithoutRanges, diagram_in01, verdict_in01, answer_in01}
 use Rattle.guarantee.specs.SubtypeRanges.CallsBefore.{report_in01}
-use Rattle.guarantee.specs.SubtypeRanges.Kept.{accepted-before, refused-before, same-uppers, same-constraints}
-use Rattle.guarantee.specs.SubtypeRanges.Refused.{diagram-refused}
+use Rattle.guarantee.proofs.SubtypeRanges.Kept.{accepted-before, refused-before, same-uppers, same-constraints}
+use Rattle.guarantee.proofs.SubtypeRanges.Refused.{diagram-refused}
 use Rattle.guarantee.specs.SubtypeRanges.{RangedSubtype, PlainSubtype, Allowed, OutOfRange, TableRanges, Unchanged, OnlyPair, SubtypeRanges}
 
 -- ---- a pair

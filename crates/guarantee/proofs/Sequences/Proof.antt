@@ -2,11 +2,11 @@
 use Rattle.std.specs.Prelude.{ℕ, ◌≤◌, ◌<◌, ◌≡◌, ◌↔◌, List, ◌++◌, length, take}
 use Rattle.std.proofs.Math.Path.{refl}
 use Rattle.std.proofs.Common.{sym, ap, ◌∙◌, arith, length-append}
-use Rattle.std.proofs.Math.Logic.{Iff·trans}
+use Rattle.std.proofs.Math.Logic.Iff
 use Rattle.std.proofs.Math.Seq.{take-append_seam}
 use Rattle.fixpoint.specs.Limits.{any_lowers}
-use Rattle.fixpoint.specs.Laws.{AnyOrderLaws, any_order-laws}
-use Rattle.fixpoint.specs.Laws.AnyOrder.{step_≼}
+use Rattle.fixpoint.proofs.Laws.{AnyOrderLaws, any_order-laws}
+use Rattle.fixpoint.proofs.Laws.AnyOrder.{step_≼}
 use Rattle.orm.specs.Diagram.{Diagram}
 use Rattle.orm.specs.Text.{table_line}
 use Rattle.orm.specs.Sets.{set_count, lower, upper, limits, verdict_from}
@@ -14,14 +14,14 @@ use Rattle.orm.specs.Outcome.{Outcome, refused, accepted, fitted, Sized}
 use Rattle.orm.specs.Calls.{diagram_in}
 use Rattle.orm.specs.SingleLimits.{front_of, start_call, lower_call, survey_call}
 use Rattle.orm.specs.WellFormed.{WellFormed}
-use Rattle.orm.specs.Laws.Bounds.{upper-sets, bounds-paired}
-use Rattle.orm.specs.Laws.Rounds.{own-bounds}
-use Rattle.orm.specs.Laws.SingleLimits.{number-there, number-none, front-there, front-short}
+use Rattle.orm.proofs.Laws.Bounds.{upper-sets, bounds-paired}
+use Rattle.orm.proofs.Laws.Rounds.{own-bounds}
+use Rattle.orm.proofs.Laws.SingleLimits.{number-there, number-none, front-there, front-short}
 use Rattle.reading.specs.Laws.{table-accepted-iff, fits, does_not-fit}
 use Rattle.guarantee.specs.Settling.{RefusesBy}
-use Rattle.guarantee.specs.Inside.{emptied-none, none-emptied}
+use Rattle.guarantee.proofs.Inside.{emptied-none, none-emptied}
 use Rattle.guarantee.specs.Guarantee.{NoPopulation, RefusesEmptied}
-use Rattle.guarantee.specs.Proof.{none-fits, fault-of-form, guarantee}
+use Rattle.guarantee.proofs.Guarantee.{none-fits, fault-of-form, guarantee}
 use Rattle.guarantee.specs.Sequences.{upper_after_steps, CarriedOn, SomeBelow, EndOf, OneLimit, SequencesOf, Sequences}
 
 front : (n : ℕ) (c rest : List ℕ) → length c ≡ n → front_of n (c ++ rest) ≡ accepted c
@@ -48,7 +48,7 @@ module _ (t : List ℕ) (d : Diagram) (e : diagram_in table_line t ≡ accepted 
         )
 
     by_end : {call : ℕ → Outcome Sized} → RefusesEmptied d call → RefusesBy 7 d (lower d) (upper d) (SomeBelow d (upper_after_steps d ks)) call
-    by_end r = record { exactly_when = λ space. Iff·trans (r.exactly_when space) none-iff; set_and_round = r.set_and_round }
+    by_end r = record { exactly_when = λ space. Iff.trans (r.exactly_when space) none-iff; set_and_round = r.set_and_round }
 
     end_of : EndOf t d (upper_after_steps d ks)
     unfolding verdict_from

@@ -12,7 +12,7 @@ use Rattle.orm.specs.Reader.{rejected, Cut}
 use Rattle.orm.specs.Form.{first_of, ranges, in_ranges, type_of, type_tests, line, count, types_after, diagram_lines, whole_diagram, reading}
 use Rattle.orm.specs.Outcome.{refused, outcome_of}
 use Rattle.orm.specs.Calls.{diagram_in}
-use Rattle.orm.specs.Laws.Readers.{bind_read, bind_rejected}
+use Rattle.orm.proofs.Laws.Readers.{bind_read, bind_rejected}
 use Rattle.orm.specs.Meaning.{Between}
 use Rattle.reading.specs.Exact.{written, written_append}
 use Rattle.reading.specs.Lines.{Cuts}

@@ -4,8 +4,9 @@ use Rattle.std.proofs.Common.{sym, ap, subst, ◌∙◌, append-nil, arith}
 use Rattle.counting.specs.Terms.{Each}
 use Rattle.pairing.specs.Pairing.{right_of}
 use Rattle.pairing.specs.Multiples.{multiple_rows, multiples, pairing_multiple}
-use Rattle.pairing.specs.Laws.{IsLcm, lcm_is_lcm}
-use Rattle.pairing.specs.Laws.Multiples.{multiples-rows, multiples-wide, multiples-small, multiples-length, multiple-is, pairing-multiple-is}
+use Rattle.pairing.proofs.Laws.{lcm_is_lcm}
+use Rattle.pairing.specs.Divisors.{IsLcm}
+use Rattle.pairing.proofs.Laws.Multiples.{multiples-rows, multiples-wide, multiples-small, multiples-length, multiple-is, pairing-multiple-is}
 use Rattle.orm.specs.Reader.{cut}
 use Rattle.orm.specs.MultiplesText.{multiples_text, line_numbers}
 use Rattle.reading.specs.Lines.{Small}

@@ -15,10 +15,11 @@ use Rattle.orm.specs.Populate.{population}
 use Rattle.orm.specs.Outcome.{Outcome, refused, accepted, ◌>>=◌, buffer_after, fitted, Sized, written, handed_back}
 use Rattle.orm.specs.Calls.{diagram_in, sizes_by, settled_into, read_call, check_call, populate_call}
 use Rattle.orm.specs.WellFormed.{WellFormed}
-use Rattle.orm.specs.Laws.Rounds.{Inside, inside-laws}
+use Rattle.orm.proofs.Laws.Rounds.{inside-laws}
+use Rattle.orm.specs.Inside.{Inside}
 use Rattle.reading.specs.Laws.{fits, does_not-fit}
-use Rattle.guarantee.specs.Settling.{RefusesBy, Writes}
-use Rattle.guarantee.specs.Inside.{NoneFits, emptied-none, none-emptied}
+use Rattle.guarantee.specs.Settling.{RefusesBy, Writes, sized}
+use Rattle.guarantee.proofs.Inside.{NoneFits, emptied-none, none-emptied}
 
 pub read-ends : (text : List ℕ) (d : Diagram) (space : ℕ) → diagram_in text_line text ≡ accepted d → read_call text space ≡ fitted space (table d)
 unfolding read_call
@@ -32,10 +33,6 @@ module _ (t : List ℕ) (d : Diagram) (e : diagram_in table_line t ≡ accepted 
   pub populate-ends : (space : ℕ) → populate_call t space ≡ settled_into 7 (λ c. cells (population d c)) (verdict d) space
   unfolding populate_call
   populate-ends space = rw (e, populate_call)
-
--- What such a call hands back
-abbrev pub sized : ℕ → List ℕ → Outcome Sized
-sized n w = accepted (record { rounds = n; result = w })
 
 -- The verdict, and then what is made from the sizes
 module _ (number : ℕ) (make : List ℕ → List ℕ) (space : ℕ) where

@@ -2,10 +2,10 @@
 use Rattle.std.specs.Prelude.{ℕ, zero, suc, ◌≤◌, ◌<◌, ◌≡◌, ◌↔◌, ◌⊎◌, List, get_or}
 use Rattle.std.proofs.Math.Path.{refl}
 use Rattle.std.proofs.Common.{ap, sym, subst, ◌∙◌, inl, inr, le_antisymm, arith}
-use Rattle.counting.specs.Laws.Members.{get_or_in}
+use Rattle.counting.proofs.Laws.Members.{get_or_in}
 use Rattle.fixpoint.specs.Limits.{Verdict, unsatisfiable, fixpoint, upper_after}
 use Rattle.fixpoint.specs.Notions.{◌≼◌}
-use Rattle.fixpoint.specs.Laws.Order.{≼_refl, ≼_antisym}
+use Rattle.fixpoint.proofs.Laws.Order.{≼_refl, ≼_antisym}
 use Rattle.orm.specs.Diagram.{Diagram, index}
 use Rattle.orm.specs.Text.{table_line}
 use Rattle.orm.specs.Sets.{set_count, lower, upper, verdict_from}
@@ -17,15 +17,16 @@ use Rattle.orm.specs.Calls.{diagram_in, settled_into}
 use Rattle.orm.specs.Prescribe.{prescribe_call}
 use Rattle.orm.specs.Meaning.{Between, ValidPopulation}
 use Rattle.orm.specs.WellFormed.{WellFormed}
-use Rattle.orm.specs.Laws.Bounds.{lower-positive, bounds-paired, upper-sets}
-use Rattle.orm.specs.Laws.Prescribe.{above-raised, under_capped, prescribed-inside, is_set, no_set}
-use Rattle.orm.specs.Laws.Rounds.{Inside, inside-laws}
+use Rattle.orm.proofs.Laws.Bounds.{lower-positive, bounds-paired, upper-sets}
+use Rattle.orm.proofs.Laws.Prescribe.{above-raised, under_capped, prescribed-inside, is_set, no_set}
+use Rattle.orm.proofs.Laws.Rounds.{inside-laws}
+use Rattle.orm.specs.Inside.{Inside}
 use Rattle.reading.specs.Laws.{table-accepted-iff}
-use Rattle.sound.specs.Laws.{valid-laws}
-use Rattle.guarantee.specs.Inside.{Fits, NoneFits, settled-greatest, some-settled}
-use Rattle.guarantee.specs.Ends.{settled-unsatisfiable, refuses-by, refuses-only, writes-made}
+use Rattle.sound.proofs.Laws.{valid-laws}
+use Rattle.guarantee.proofs.Inside.{Fits, NoneFits, settled-greatest, some-settled}
+use Rattle.guarantee.proofs.Ends.{settled-unsatisfiable, refuses-by, refuses-only, writes-made}
 use Rattle.guarantee.specs.Guarantee.{Populated}
-use Rattle.guarantee.specs.Proof.{fault-of-form}
+use Rattle.guarantee.proofs.Guarantee.{fault-of-form}
 use Rattle.guarantee.specs.Prescribed.{Having, NoneHaving, lower_for, upper_for, Produced, PrescribedIn, Prescribed}
 
 -- ---- the changed bounds

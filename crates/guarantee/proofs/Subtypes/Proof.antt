@@ -12,10 +12,11 @@ use Rattle.std.proofs.Math.ListN.{length, get_or}
 use Rattle.counting.specs.Distinct.{within}
 use Rattle.counting.specs.Terms.{◌∈◌}
 use Rattle.counting.specs.Totals.{sum_over, product_over}
-use Rattle.counting.specs.Laws.Index.{At, at_in, at-below, each-from-at}
+use Rattle.counting.proofs.Laws.Index.{at_in, at-below, each-from-at}
+use Rattle.counting.specs.Index.{At}
 use Rattle.fixpoint.specs.Limits.{Limit, sum, value_of, upper_after}
-use Rattle.fixpoint.specs.Laws.Order.{greatest-entry}
-use Rattle.fixpoint.specs.Laws.Round.{round-target}
+use Rattle.fixpoint.proofs.Laws.Order.{greatest-entry}
+use Rattle.fixpoint.proofs.Laws.Round.{round-target}
 use Rattle.orm.specs.Diagram.{ObjectType, Diagram, is_root, is_independent, plays, must_play, index, all_roles}
 use Rattle.orm.specs.Text.{table_line}
 use Rattle.orm.specs.Sets.{roles_of_type, lower, upper, upper_of_type, at_most, only_if, limits_of_type, limits, verdict_from}
@@ -27,19 +28,20 @@ use Rattle.orm.specs.Calls.{diagram_in, population_in, validate_call}
 use Rattle.orm.specs.Program.{program}
 use Rattle.orm.specs.Meaning.{Plays, MustPlay}
 use Rattle.orm.specs.WellFormed.{TypeForm, WellFormed}
-use Rattle.orm.specs.Laws.Decided.{plays_decides, must_play_decides}
-use Rattle.orm.specs.Laws.Limits.{only-own}
-use Rattle.orm.specs.Laws.Named.{Fails, named-K10}
-use Rattle.orm.specs.Laws.Rounds.{own-bounds, verdict-laws}
-use Rattle.orm.specs.Laws.Select.{of-select}
-use Rattle.orm.specs.Cases.All.{everything}
-use Rattle.orm.specs.Cases.Marked.{text, sample_with}
+use Rattle.orm.proofs.Laws.Decided.{plays_decides, must_play_decides}
+use Rattle.orm.proofs.Laws.Limits.{only-own}
+use Rattle.orm.proofs.Laws.Named.{Fails, named-K10}
+use Rattle.orm.proofs.Laws.Rounds.{own-bounds, verdict-laws}
+use Rattle.orm.proofs.Laws.Select.{of-select}
+use Rattle.orm.proofs.Cases.All.{everything}
+use Rattle.orm.specs.Sample.{text, sample_with}
 use Rattle.reading.specs.Laws.{table-accepted-iff}
-use Rattle.sound.specs.Laws.{valid-laws}
-use Rattle.complete.specs.Solved.{Solved, count, lower-type, upper-type, type-limit_in, type-form, type-least, type-most, type-super, type-sum}
-use Rattle.complete.specs.Laws.{fixpoint-solved}
+use Rattle.sound.proofs.Laws.{valid-laws}
+use Rattle.complete.specs.Solved.{Solved}
+use Rattle.complete.proofs.Solved.{count, lower-type, upper-type, type-limit_in, type-form, type-least, type-most, type-super, type-sum}
+use Rattle.complete.proofs.Laws.{fixpoint-solved}
 use Rattle.guarantee.specs.Guarantee.{NoPopulation, EmptiedAt, RefusesEmptied, Populated, TableGuarantee}
-use Rattle.guarantee.specs.Proof.{guarantee}
+use Rattle.guarantee.proofs.Guarantee.{guarantee}
 use Rattle.guarantee.specs.Subtypes.{FreeSubtype, RolelessRoot, K10In01, RefusesAtOnce, TableSubtypes, Subtypes}
 
 -- ---- who must play

@@ -11,9 +11,9 @@ use Rattle.std.proofs.Math.Option.{some}
 use mathlib.Core.List.{List, [], ◌∷◌, ◌++◌, flat_map}
 use borrow.Author.Tests.{eqb-true, eqb-false, le-leb, lt-leb}
 use Rattle.counting.specs.Terms.{◌∈◌}
-use Rattle.counting.specs.Laws.Distinct.{all-fails}
-use Rattle.counting.specs.Laws.Index.{at_in}
-use Rattle.counting.specs.Laws.Members.{each_nil, each-cons, of-flat_map}
+use Rattle.counting.proofs.Laws.Distinct.{all-fails}
+use Rattle.counting.proofs.Laws.Index.{at_in}
+use Rattle.counting.proofs.Laws.Members.{each_nil, each-cons, of-flat_map}
 use Rattle.orm.specs.Diagram.{ObjectType, Role, Predicate, Diagram, LineKind, diagram_line, role_line, limited_role_line, limits_roles, role_line_of}
 use Rattle.orm.specs.Diagram.{must_play, line_of_count, line_of_role, all_roles, all_groups, lines, table}
 use Rattle.orm.specs.Reader.{Cut, cut, exactly}
@@ -28,9 +28,9 @@ use Rattle.orm.specs.Calls.{diagram_in, sizes_of, population_in, read_call, writ
 use Rattle.orm.specs.Program.{output, reported, program}
 use Rattle.orm.specs.Meaning.{Between}
 use Rattle.orm.specs.WellFormed.{WellFormed}
-use Rattle.orm.specs.Laws.Decided.{in_range_decides, last-broken}
-use Rattle.orm.specs.Laws.Named.{PredFails, named-K11, breaks-within}
-use Rattle.orm.specs.Laws.Rounds.{own-bounds}
+use Rattle.orm.proofs.Laws.Decided.{in_range_decides, last-broken}
+use Rattle.orm.proofs.Laws.Named.{PredFails, named-K11, breaks-within}
+use Rattle.orm.proofs.Laws.Rounds.{own-bounds}
 use Rattle.reading.specs.Exact.{written, written_one}
 use Rattle.reading.specs.Lines.{Cuts, tested_decides}
 use Rattle.reading.specs.Cutting.{text_form, table_form, text_cuts, table_cuts}
@@ -39,15 +39,16 @@ use Rattle.reading.specs.Types.{all-types-iff}
 use Rattle.reading.specs.Predicates.{NextPreds, next-preds-iff}
 use Rattle.reading.specs.TextLength.{text-length}
 use Rattle.reading.specs.Prefix.{read-from_prefix, first-line-more}
-use Rattle.sound.specs.Laws.{valid-laws}
-use Rattle.sound.specs.Unlimited.{unlimited-answer}
-use Rattle.complete.specs.Solved.{Solved, lower-role, upper-role}
-use Rattle.complete.specs.Laws.{fixpoint-solved}
-use Rattle.guarantee.specs.Proof.{guarantee}
+use Rattle.sound.proofs.Laws.{valid-laws}
+use Rattle.sound.proofs.Unlimited.{unlimited-answer}
+use Rattle.complete.specs.Solved.{Solved}
+use Rattle.complete.proofs.Solved.{lower-role, upper-role}
+use Rattle.complete.proofs.Laws.{fixpoint-solved}
+use Rattle.guarantee.proofs.Guarantee.{guarantee}
 use Rattle.guarantee.specs.RoleLimits.Before.{diagram_in_before}
 use Rattle.guarantee.specs.RoleLimits.CallsBefore.{report_before}
-use Rattle.guarantee.specs.RoleLimits.Kept.{same_outcome, same-lowers, same-uppers, same_verdict, same_answer, kind-before}
-use Rattle.guarantee.specs.RoleLimits.Refused.{diagram-refused, kind-refused}
+use Rattle.guarantee.proofs.RoleLimits.Kept.{same_outcome, same-lowers, same-uppers, same_verdict, same_answer, kind-before}
+use Rattle.guarantee.proofs.RoleLimits.Refused.{diagram-refused, kind-refused}
 use Rattle.guarantee.specs.RoleLimits.{RoleLines, TextKinds, OutOfLimits, TableLimits, NotSecond, Unchanged, OnlyLimits, RoleLimits}
 
 -- ---- the lines of each kind

@@ -12,15 +12,15 @@ use Rattle.std.proofs.Math.ListN.{length, length-append}
 use Rattle.std.proofs.lemmas.List.{length-map}
 use Rattle.counting.specs.Lists.{up_from}
 use Rattle.counting.specs.Terms.{Each}
-use Rattle.counting.specs.Laws.Members.{each-head, each_tail}
-use Rattle.counting.specs.Laws.Range.{length-up_from}
+use Rattle.counting.proofs.Laws.Members.{each-head, each_tail}
+use Rattle.counting.proofs.Laws.Range.{length-up_from}
 use Rattle.orm.specs.Diagram.{ObjectType, Role, Predicate, Line, LineKind, diagram_line, types_line, preds_line, pred_line, limited_role_line, role_line_of}
 use Rattle.orm.specs.Diagram.{line_of_count, line_of_type, line_of_role, lines_of_pred}
 use Rattle.orm.specs.Reader.{rejected, Reader, ◌>>=◌, for_each, Cut, cut}
 use Rattle.orm.specs.Form.{count_of, first_of, ranges, in_ranges, PredHead, head_of, pred_tests, role_of, role_tests, line, count, types_after, predicate, predicates, diagram_lines, whole_diagram, reading}
 use Rattle.orm.specs.Outcome.{refused, outcome_of}
 use Rattle.orm.specs.Calls.{diagram_in}
-use Rattle.orm.specs.Laws.Readers.{bind_read, bind_rejected}
+use Rattle.orm.proofs.Laws.Readers.{bind_read, bind_rejected}
 use Rattle.orm.specs.Meaning.{Between}
 use Rattle.orm.specs.WellFormed.{RoleForm}
 use Rattle.reading.specs.Exact.{written, written_append, Exact}

@@ -12,12 +12,12 @@ use Rattle.std.proofs.Math.Dec.{eqb}
 use Rattle.counting.specs.Lists.{up_from}
 use Rattle.counting.specs.Distinct.{all}
 use Rattle.counting.specs.Terms.{Each}
-use Rattle.counting.specs.Laws.Members.{each_nil, each-cons, each-head, each_tail}
-use Rattle.counting.specs.Laws.Maps.{map_congr}
+use Rattle.counting.proofs.Laws.Members.{each_nil, each-cons, each-head, each_tail}
+use Rattle.counting.proofs.Laws.Maps.{map_congr}
 use Rattle.orm.specs.Diagram.{ObjectType, Frequency, Predicate, Diagram, LineKind, diagram_line, types_line, type_line, preds_line, end_line, is_root, all_roles, all_groups}
 use Rattle.orm.specs.Supertypes.{has_range}
 use Rattle.orm.specs.Reader.{Reading, rejected, read, Reader, ◌>>=◌, pure, for_each, at_end, Cut, broken, cut}
-use Rattle.orm.specs.Laws.Readers.{bind_cases}
+use Rattle.orm.proofs.Laws.Readers.{bind_cases}
 use Rattle.orm.specs.Form.{◌unless◌, first_of, ◌to◌, in_range, in_ranges, ranges, count_of, type_of, end_tests, within_super, values_in_order, type_tests, line, count, types_after, predicates, diagram_lines, whole_diagram, reading}
 use Rattle.orm.specs.Outcome.{refused, accepted, outcome_of}
 use Rattle.orm.specs.Calls.{diagram_in}

@@ -8,12 +8,12 @@ use Rattle.orm.specs.Sets.{lower, upper, verdict_from}
 use Rattle.orm.specs.Outcome.{Outcome, accepted, ◌>>=◌, buffer_after, length_of, written}
 use Rattle.orm.specs.Calls.{diagram_in, read_call, check_call, populate_call}
 use Rattle.orm.specs.WellFormed.{WellFormed}
-use Rattle.orm.specs.Laws.Rounds.{own-bounds, verdict-laws}
-use Rattle.orm.specs.Laws.Cells.{population_in-iff, validate_iff}
+use Rattle.orm.proofs.Laws.Rounds.{own-bounds, verdict-laws}
+use Rattle.orm.proofs.Laws.Cells.{population_in-iff, validate_iff}
 use Rattle.reading.specs.Laws.{text-accepted-iff, table-accepted-iff, accepted_or_fault, accepted-text-table, fits, does_not-fit}
-use Rattle.sound.specs.Laws.{valid-laws, valid-small}
-use Rattle.guarantee.specs.Inside.{NoneFits, settled-greatest, some-settled}
-use Rattle.guarantee.specs.Ends.{read-ends, check-ends, populate-ends, refuses-by, writes-made}
+use Rattle.sound.proofs.Laws.{valid-laws, valid-small}
+use Rattle.guarantee.proofs.Inside.{NoneFits, settled-greatest, some-settled}
+use Rattle.guarantee.proofs.Ends.{read-ends, check-ends, populate-ends, refuses-by, writes-made}
 use Rattle.guarantee.specs.Guarantee.{NoPopulation, TextGuarantee, Populated, TableGuarantee, FaultOfForm, Guarantee}
 
 text-guarantee : (text : List ℕ) (d : Diagram) → diagram_in text_line text ≡ accepted d → TextGuarantee text d

@@ -1,0 +1,2 @@
+-- The proof of what specs/Averages states.
+pub mod Proof

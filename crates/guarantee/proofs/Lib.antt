@@ -1,0 +1,10 @@
+pub mod Inside
+pub mod Ends
+pub mod Guarantee
+pub mod Subtypes
+pub mod SubtypeRanges
+pub mod RoleLimits
+pub mod Sequences
+pub mod Prescribed
+pub mod Averages
+pub mod Multiples

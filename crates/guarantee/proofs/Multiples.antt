@@ -1,0 +1,2 @@
+-- The proof of what specs/Multiples states.
+pub mod Proof

@@ -1,0 +1,2 @@
+-- The proof of what specs/Prescribed states.
+pub mod Proof

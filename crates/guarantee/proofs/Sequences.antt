@@ -1,0 +1,2 @@
+-- The proof of what specs/Sequences states.
+pub mod Proof

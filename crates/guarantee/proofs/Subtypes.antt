@@ -1,0 +1,2 @@
+-- The proof of what specs/Subtypes states.
+pub mod Proof

@@ -4,15 +4,15 @@ use Rattle.std.proofs.Math.Decide.{dec_lt}
 use Rattle.std.proofs.Common.{mul-suc, arith}
 use Rattle.std.proofs.Math.ListN.{get_or-eq_default}
 use Rattle.counting.specs.Terms.{Each}
-use Rattle.counting.specs.Laws.Members.{each-head, each_tail, get_or_in}
-use Rattle.counting.specs.Laws.Index.{in_at, at-get_or, at-below}
+use Rattle.counting.proofs.Laws.Members.{each-head, each_tail, get_or_in}
+use Rattle.counting.proofs.Laws.Index.{in_at, at-get_or, at-below}
 use Rattle.fixpoint.specs.Limits.{slack, unsatisfiable, fixpoint}
 use Rattle.fixpoint.specs.Notions.{◌≼◌, FirstBelow}
 use Rattle.orm.specs.Diagram.{Diagram}
 use Rattle.orm.specs.Sets.{lower, upper, most_rounds, verdict, verdict_from}
 use Rattle.orm.specs.WellFormed.{WellFormed}
-use Rattle.orm.specs.Laws.Bounds.{lower-few, upper-few, upper-small}
-use Rattle.orm.specs.Laws.Rounds.{verdict-laws, unsatisfiable-within, fixpoint-within}
+use Rattle.orm.proofs.Laws.Bounds.{lower-few, upper-few, upper-small}
+use Rattle.orm.proofs.Laws.Rounds.{verdict-laws, unsatisfiable-within, fixpoint-within}
 
 -- ---- lists of sizes
 

@@ -19,11 +19,12 @@ use Rattle.orm.specs.Outcome.{Outcome, refused, accepted, ◌>>=◌, fitted, Siz
 use Rattle.orm.specs.Calls.{diagram_in, populate_call}
 use Rattle.orm.specs.Meaning.{M2, M6, EachType, EachPred, Rows, ValidPopulation}
 use Rattle.orm.specs.WellFormed.{TypeForm, PredForm, WellFormed}
-use Rattle.orm.specs.Laws.Shape.{flatten-length}
+use Rattle.orm.proofs.Laws.Shape.{flatten-length}
 use Rattle.reading.specs.Laws.{table-accepted-iff, accepted_or_fault}
-use Rattle.complete.specs.Laws.{population-laws, fixpoint-solved}
-use Rattle.orm.specs.Laws.Rounds.{own-bounds}
-use Rattle.guarantee.specs.Ends.{sized, populate-ends, settled-unsatisfiable, settled-fixpoint}
+use Rattle.complete.proofs.Laws.{population-laws, fixpoint-solved}
+use Rattle.orm.proofs.Laws.Rounds.{own-bounds}
+use Rattle.guarantee.proofs.Ends.{populate-ends, settled-unsatisfiable, settled-fixpoint}
+use Rattle.guarantee.specs.Settling.{sized}
 
 -- a size cell and at most 4,096 values for each type
 type-cells : (us : List ObjectType) (n : ℕ) (ts : List ObjectType) (os : List (List ℕ)) → length os ≡ length ts → EachFrom (TypeForm us) n ts

@@ -9,9 +9,9 @@ use Rattle.std.proofs.Math.ListN.{length, length-append}
 use Rattle.std.proofs.lemmas.List.{length-map}
 use Rattle.counting.specs.Lists.{up_from}
 use Rattle.counting.specs.Totals.{sum_over}
-use Rattle.counting.specs.Laws.Members.{each_map}
-use Rattle.counting.specs.Laws.Range.{length-up_from}
-use Rattle.counting.specs.Laws.Index.{length-map_from}
+use Rattle.counting.proofs.Laws.Members.{each_map}
+use Rattle.counting.proofs.Laws.Range.{length-up_from}
+use Rattle.counting.proofs.Laws.Index.{length-map_from}
 use Rattle.fixpoint.specs.Limits.{fixpoint}
 use Rattle.orm.specs.Diagram.{ObjectType, Role, Predicate, Diagram}
 use Rattle.orm.specs.Sets.{Placed, placed, verdict}
@@ -19,8 +19,8 @@ use Rattle.orm.specs.Population.{cells_of_type, cells_of_pred, cells}
 use Rattle.orm.specs.Supertypes.{first_value}
 use Rattle.orm.specs.Populate.{size, type_values, row, rows, population}
 use Rattle.orm.specs.WellFormed.{WellFormed}
-use Rattle.orm.specs.Cases.All.{everything}
-use Rattle.orm.specs.Laws.Shape.{flatten-length}
+use Rattle.orm.proofs.Cases.All.{everything}
+use Rattle.orm.proofs.Laws.Shape.{flatten-length}
 use Rattle.reading.specs.Laws.{well_formed-iff-accepted}
 
 -- ---- how many cells, by the sizes

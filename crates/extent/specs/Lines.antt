@@ -9,8 +9,8 @@ use mathlib.Core.List.{List, [], ◌∷◌, ◌++◌, flat_map, flatten}
 use Rattle.std.proofs.Math.ListN.{length, length-append}
 use Rattle.counting.specs.Lists.{map_from}
 use Rattle.counting.specs.Terms.{Each}
-use Rattle.counting.specs.Laws.Members.{each-head, each_tail}
-use Rattle.counting.specs.Laws.Index.{At, first, later}
+use Rattle.counting.proofs.Laws.Members.{each-head, each_tail}
+use Rattle.counting.specs.Index.{At, first, later}
 use Rattle.orm.specs.Text.{bytes, decimal, separator, values_text, line_text}
 use Rattle.reading.specs.Decimal.{bound, decimal-length}
 

@@ -11,9 +11,9 @@ use mathlib.Core.List.{List, [], ◌∷◌, ◌++◌, flat_map, flatten}
 use Rattle.std.proofs.Math.ListN.{length, length-append}
 use Rattle.counting.specs.Lists.{map_from}
 use Rattle.counting.specs.Terms.{Each}
-use Rattle.counting.specs.Laws.Members.{each_nil, each-cons, in_flatten, in_flat_map}
-use Rattle.counting.specs.Laws.Index.{at_in, at-below, below_at, each2_at}
-use Rattle.counting.specs.Laws.Maps.{flat_map-single}
+use Rattle.counting.proofs.Laws.Members.{each_nil, each-cons, in_flatten, in_flat_map}
+use Rattle.counting.proofs.Laws.Index.{at_in, at-below, below_at, each2_at}
+use Rattle.counting.proofs.Laws.Maps.{flat_map-single}
 use Rattle.fixpoint.specs.Limits.{Verdict, unsatisfiable, fixpoint}
 use Rattle.orm.specs.Diagram.{Diagram}
 use Rattle.orm.specs.Text.{bytes, line_text, text_line}
@@ -25,12 +25,12 @@ use Rattle.orm.specs.Calls.{diagram_in, sizes_by, sizes_of}
 use Rattle.orm.specs.Program.{pred_text, report, reported, output, program}
 use Rattle.orm.specs.Meaning.{Between, Rows, Shaped}
 use Rattle.orm.specs.WellFormed.{WellFormed}
-use Rattle.orm.specs.Laws.Shape.{population-shaped}
+use Rattle.orm.proofs.Laws.Shape.{population-shaped}
 use Rattle.reading.specs.Laws.{text-accepted-iff, accepted_or_fault, fits, does_not-fit}
-use Rattle.sound.specs.Laws.{valid-small}
-use Rattle.sound.specs.Positions.{preds-length}
-use Rattle.complete.specs.Laws.{population-laws, fixpoint-solved}
-use Rattle.orm.specs.Laws.Rounds.{own-bounds}
+use Rattle.sound.proofs.Laws.{valid-small}
+use Rattle.sound.proofs.Positions.{preds-length}
+use Rattle.complete.proofs.Laws.{population-laws, fixpoint-solved}
+use Rattle.orm.proofs.Laws.Rounds.{own-bounds}
 use Rattle.extent.specs.Cells.{cells-at-most}
 use Rattle.extent.specs.Bounds.{settled-rounds, settled-few, settled-small, emptied-rounds, emptied-set}
 use Rattle.extent.specs.Places.{line-at-most}

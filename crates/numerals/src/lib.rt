@@ -1,6 +1,8 @@
 // Numbers in decimal digits and lines `key=value`, written into a buffer of bytes. Each function
 // writes from the index `at` on and answers the index behind what it wrote; a full buffer stays as it
 // is. A number that is not there reads as 0.
+#![tactic(auto)]
+
 ghost use Rattle.std.specs.Prelude.{◌≡◌, [], ◌∷◌, ◌++◌, ◌+◌, ◌-◌, ◌%◌, ◌≤◌, length, get_or, drop};
 ghost use Rattle.orm.specs.Text.{separator, decimal, values_text};
 ghost use Rattle.buffer.specs.Written.{Wrote};

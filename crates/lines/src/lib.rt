@@ -2,25 +2,27 @@
 //
 // `next` walks a lent text line by line. A caller that would hold no struct calls `line_from`, which
 // asks only a slice and an offset. An offset past the end is as the end: no line is left there.
+#![tactic(auto)]
+
 ghost use Rattle.std.specs.Prelude.{◌≡◌};
 ghost use Rattle.orm.specs.LineReader.{next_line};
 ghost use Rattle.lines.specs.Answers.{line_of, step_from, at_start, step_in, past_line};
 
-#[derive(Drop)]
+#[derive(Clone, Copy)]
 pub struct LineReader<'a> {
     pub text: &'a [u8],
     pub offset: usize,
 }
 
 // A line's start and its length without the line feed, or none.
-#[derive(Drop)]
+#[derive(Clone, Copy)]
 pub enum Line {
     At { start: usize, length: usize },
     Nothing,
 }
 
 // A line, and the offset past it; where there is none, the offset as it was.
-#[derive(Drop)]
+#[derive(Clone, Copy)]
 pub struct Step {
     pub line: Line,
     pub offset: usize,
@@ -42,7 +44,7 @@ pub fn next<'s, 'a>(reader: &'s mut LineReader<'a>) -> Line
     step.line
 }
 
-// The next line from an offset on, with plain parameters: whoever calls it needs no walk by hand.
+// The next line from an offset on, with plain parameters: whoever calls it holds no reader.
 pub fn line_from(text: &[u8], offset: usize) -> Step
     ensures { result ≡ step_from text.now offset }
 {

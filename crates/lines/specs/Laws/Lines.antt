@@ -2,7 +2,7 @@
 use Rattle.std.specs.Prelude.{◌≡◌, refl, List, [], ◌∷◌, ◌++◌, ℕ, zero, suc, ◌+◌, ◌≤◌, length, take, drop}
 use Rattle.std.proofs.Common.{sym, ap, ◌∙◌, append_assoc, arith, drop-drop}
 use Rattle.counting.specs.Terms.{Each}
-use Rattle.counting.specs.Laws.Members.{each_nil, each-cons}
+use Rattle.counting.proofs.Laws.Members.{each_nil, each-cons}
 use Rattle.orm.specs.LineReader.{NextLine, no_line, line_at, next_line, position_after}
 use Rattle.lines.specs.Answers.{past_line}
 use Rattle.lines.specs.Calls.{lines_read, offset_after, after_calls, unlines, HasNoLineFeed, LinesAreText}

@@ -70,8 +70,3 @@ key-is RoleLine = refl
 key-is LimitedRoleLine = refl
 key-is FreqLine = refl
 key-is EndLine = refl
-
--- in an arm for the kind `k`
-pub key_arm : {kind k : Kind} (s : List ℕ) (at : ℕ) (f : Found) → kind ≡ k → f ≡ found_at s at (after (key_of k) (drop at s))
-    → f ≡ found_at s at (after (key_of kind) (drop at s))
-key_arm s at f e w = rw e w

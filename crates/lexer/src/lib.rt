@@ -1,10 +1,12 @@
 // Cuts numbers, keys and lines off a text. A position stands for what follows it.
+#![tactic(auto)]
+
 mod keys;
 pub mod lines;
 pub mod numbers;
 
 // The kind of a line: its key, and of a role line whether it has RMIN and RMAX.
-#[derive(Drop)]
+#[derive(Clone, Copy)]
 pub enum Kind {
     DiagramLine,
     TypesLine,
@@ -18,14 +20,14 @@ pub enum Kind {
 }
 
 // A number and where what follows it starts.
-#[derive(Drop)]
+#[derive(Clone, Copy)]
 pub enum Numeral {
     Malformed,
     Value(u32, usize),
 }
 
 // Where what was looked for ends.
-#[derive(Drop)]
+#[derive(Clone, Copy)]
 pub enum Found {
     To(usize),
     Nothing,

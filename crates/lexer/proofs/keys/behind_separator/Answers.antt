@@ -1,0 +1,10 @@
+-- `lexer::keys::behind_separator` meets its contract.
+use Rattle.lexer.proofs.Prefixes.{line_feed, comma}
+use Rattle.std.proofs.Common.{rules}
+use Rattle.lexer.proofs.keys.behind_separator.Goals as goal
+
+pub returns-then-left-eq0 : goal.returns-then-left-eq0
+returns-then-left-eq0 c = search (rules, line_feed, comma)
+
+pub returns-else-left-eq0 : goal.returns-else-left-eq0
+returns-else-left-eq0 c = search (rules, line_feed, comma)

@@ -7,8 +7,8 @@ use Rattle.std.proofs.Math.Bool.{true, not}
 use borrow.Author.Tests.{eq-eqb, ne_eqb, lt-ltb, le-ltb}
 use Rattle.std.proofs.Math.ListN.{get_or, get_or-eq_default}
 use Rattle.std.proofs.lemmas.List.{length-map}
-use Rattle.counting.specs.Laws.Index.{at-get_or, at_map}
-use Rattle.counting.specs.Laws.Lines.{each-length, each_at}
+use Rattle.counting.proofs.Laws.Index.{at-get_or, at_map}
+use Rattle.counting.proofs.Laws.Lines.{each-length, each_at}
 use Rattle.orm.specs.Diagram.{ObjectType, is_root}
 use Rattle.orm.specs.Form.{type_of}
 use Rattle.orm.specs.Supertypes.{super_at, first_at, last_at, root, first_value, has_range, has_range_at}

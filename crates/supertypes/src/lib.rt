@@ -1,6 +1,8 @@
 // The types above a type, and which types give FIRST and LAST, in a table that is walked or still being read: behind its first
 // two numbers stand the lines of `count` types, of six numbers each. What is not there reads as 0, so that no function asks for
 // anything.
+#![tactic(auto)]
+
 ghost use Rattle.std.specs.Prelude.{◌≡◌, ◌+◌, ◌*◌, drop};
 ghost use Rattle.orm.specs.Diagram.{index};
 ghost use Rattle.orm.specs.Form.{type_of};

@@ -8,7 +8,7 @@ use lib.Dec.{leb}
 use lib.ListN.{get_or, drop}
 use lib.Seq.{get_or-drop}
 use borrow.Author.Tests.{eq-eqb, ne_eqb}
-use Rattle.counting.specs.Laws.Lines.{each_more, each_none}
+use Rattle.counting.proofs.Laws.Lines.{each_more, each_none}
 use Rattle.orm.specs.Diagram.{limits_roles, role_line_of}
 use Rattle.orm.specs.Form.{fields, role_of, named}
 use Rattle.reading.specs.Walk.{roles_at}

@@ -176,7 +176,8 @@ module _ (s v : List ℕ) (r : Step) {o : Option ℕ} where
   pub preds-leads : {next : Awaited} (kind t : ℕ) {x : ℕ} {c : Counts} → step_of r ≡ stepped o next
       → o ≡ fault_in preds_line v [] → next ≡ preds_from c → c ≡ counts_of kind t x → x ≡ get_or v 0 0
       → step_of r ≡ step_at (AtPreds kind t) s v
-  preds-leads kind t w f g h q = leads (AtPreds kind t) w f (rw (h, q) at g)
+  preds-leads kind t w f g h q =
+      leads (AtPreds kind t) w f (g ∙ ap preds_from h ∙ ap (λ (k : ℕ). preds_from (counts_of kind t k)) q)
 
   pub role-leads : {next : Awaited} (b : Block) (left : ℕ) → step_of r ≡ stepped o next
       → o ≡ fault_in (role_line_of b.counts.kind) v (role_tests b.counts.types b.groups (role_of b.counts.kind v)) → next ≡ roles_from b left

@@ -3,7 +3,7 @@
 use Rattle.std.specs.Prelude.{ℕ, ◌≡◌, get_or}
 use Rattle.counting.specs.Terms.{◌∈◌, Each}
 use Rattle.orm.specs.Form.{unlimited, ranges}
-use Rattle.orm.specs.Cases.Ranges.{Field, field, ranged_fields, document_ranges}
+use Rattle.orm.specs.Ranges.{Field, field, ranged_fields, document_ranges}
 use Rattle.lexer.specs.declared.Kind.{Kind}
 use Rattle.lexer.specs.Cuts.{kind_of}
 use Rattle.grammar.specs.declared.ranges.Bounds.{Bounds}

@@ -2,6 +2,8 @@
 //
 // `Awaited` says which line comes next and what is known so far. The numbers of the lines read so
 // far stand in a table, whether they came from a text or from a table.
+#![tactic(auto)]
+
 mod kinds;
 pub mod places;
 mod ranges;
@@ -13,7 +15,7 @@ ghost use Rattle.std.specs.Prelude.{◌≡◌};
 ghost use Rattle.grammar.specs.Fault.{number_of};
 
 // What is wrong with a line.
-#[derive(Drop)]
+#[derive(Clone, Copy)]
 pub enum Fault {
     // 1: its key, its digits, the number of its values, its end, or that it is there at all
     Malformed,
@@ -43,7 +45,7 @@ pub fn number_of(fault: Fault) -> usize
     }
 }
 
-#[derive(Drop)]
+#[derive(Clone, Copy)]
 enum Verdict {
     Fine,
     Faulty(Fault),
@@ -51,7 +53,7 @@ enum Verdict {
 
 // What is known from the lines before: the kind of the file, the number of types and of predicates,
 // the predicates whose lines are still to come, and the roles and groups so far.
-#[derive(Drop)]
+#[derive(Clone, Copy)]
 pub struct Counts {
     pub kind: usize,
     pub types: usize,
@@ -63,7 +65,7 @@ pub struct Counts {
 
 // A predicate whose lines are being read: the place of its first role's numbers in the table, and
 // the numbers of its roles and groups. The counts include them.
-#[derive(Drop)]
+#[derive(Clone, Copy)]
 pub struct Block {
     pub counts: Counts,
     pub first: usize,
@@ -73,7 +75,7 @@ pub struct Block {
 
 // The line that comes next. `own` is its number among those of its kind, `left` says how many of
 // its kind follow it.
-#[derive(Drop)]
+#[derive(Clone, Copy)]
 pub enum Awaited {
     AtDiagram,
     AtTypes {
@@ -110,7 +112,7 @@ pub enum Awaited {
 }
 
 // What a line leads to.
-#[derive(Drop)]
+#[derive(Clone, Copy)]
 pub enum Step {
     Refused(Fault),
     Next(Awaited),

@@ -8,7 +8,7 @@ ghost use Rattle.grammar.specs.Listed.{HasBounds};
 use lexer::Kind;
 
 // What a number may be.
-#[derive(Drop)]
+#[derive(Clone, Copy)]
 enum Bounds {
     // from the low bound to the high, both taken in
     Between(u32, u32),
@@ -18,6 +18,7 @@ enum Bounds {
 
 // The range of a field: keys in the order of the file, a role line without RMIN and RMAX before one with them, fields in the
 // order of the line, numbered from 0. `end` has no range, and `_` is a field that the key does not have.
+#[tactic(auto, unfolding(orm::specs::Form::ranges))]
 fn bounds_of(key: Kind, field: usize) -> Bounds
     ensures { HasBounds key field result }
 {

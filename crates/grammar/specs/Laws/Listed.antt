@@ -4,10 +4,11 @@ use Rattle.std.proofs.Common.{sym, ap, subst, ◌∙◌, arith}
 use mathlib.Core.List.Memᴰ.{head as here}
 use mathlib.Core.List.Memᴰ.{tail as there}
 use Rattle.counting.specs.Terms.{◌∈◌, Each}
-use Rattle.counting.specs.Laws.Members.{each_nil, each-cons, in_flatten}
+use Rattle.counting.proofs.Laws.Members.{each_nil, each-cons, in_flatten}
 use Rattle.orm.specs.Diagram.{LineKind, diagram_line, types_line, type_line, preds_line, pred_line, role_line, limited_role_line, freq_line, end_line}
 use Rattle.orm.specs.Form.{Range, ◌to◌, unlimited, ranges}
-use Rattle.orm.specs.Cases.Ranges.{Field, field, fields_from, ranged_fields, ranged-fields}
+use Rattle.orm.proofs.Cases.Ranges.{ranged-fields}
+use Rattle.orm.specs.Ranges.{Field, field, fields_from, ranged_fields}
 use Rattle.lexer.specs.Cuts.{kind_of}
 use Rattle.grammar.specs.declared.ranges.Bounds.{Bounds}
 use Rattle.grammar.specs.declared.ranges.Bounds.TheVariants.{Between, NoRange}

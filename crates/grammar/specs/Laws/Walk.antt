@@ -57,7 +57,7 @@ module _ (next : LineKind → List ℕ → Cut) where
       ap (λ (w : List ℕ → Walk). line_then next types_line (λ v. []) w acc) (λ i v. sym (from-types kind (get_or v 0 0) 1 (get_or v 0 0)) i)
   goes (AtType kind types own left) acc g =
       ap (λ (w : Walk). line_then next type_line (type_tests_at own acc) (λ v. w) acc)
-      (sym (from-types kind types (suc own) left) ∙ rw add-one refl)
+      (sym (from-types kind types (suc own) left) ∙ ap (λ (k : ℕ). from next (types_from kind types k left)) (sym (add-one own)))
   goes (AtPreds kind types) acc g =
       ap (λ (w : List ℕ → Walk). line_then next preds_line (λ v. []) w acc)
       (λ i v. sym (from-preds (counts_of kind types (get_or v 0 0)) (get_or v 0 0) refl) i)
@@ -69,6 +69,6 @@ module _ (next : LineKind → List ℕ → Cut) where
       (sym (from-roles b 2 left))
   goes (AtFreq b own left) acc g =
       ap (λ (w : Walk). line_then next freq_line (λ v. group_tests (roles_at b.counts.kind b.roles (drop b.first acc)) own (group_of v)) (λ v. w) acc)
-      (sym (from-groups b (suc own) left) ∙ rw add-one refl)
+      (sym (from-groups b (suc own) left) ∙ ap (λ (k : ℕ). from next (groups_from b k left)) (sym (add-one own)))
   goes (AtEnd c) acc g = refl
   goes (Over c) acc g = let z : ◌≡◌ {A = ℕ} 0 1 = cc in absurd (omega arith)

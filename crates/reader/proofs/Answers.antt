@@ -5,7 +5,7 @@ use mathlib.Core.Path.{◌≡◌, refl, sym, ap, ◌∙◌, subst}
 use mathlib.Core.List.{List}
 use lib.ListN.{length, take}
 use Rattle.reading.specs.WideTable.{most_numbers}
-use Rattle.orm.specs.Diagram.{Diagram, table, totals}
+use Rattle.orm.specs.Diagram.{Diagram, table}
 use Rattle.orm.specs.Text.{text_line, table_line}
 use Rattle.orm.specs.Outcome.{Outcome, refused, accepted, length_of, fitted, buffer_after}
 use Rattle.orm.specs.Calls.{diagram_in, read_call}

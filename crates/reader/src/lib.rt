@@ -2,6 +2,8 @@
 //
 // Both go line by line, from place to place. Text and table differ in how the next line is cut off;
 // the tests of a line are the same.
+#![tactic(auto)]
+
 mod walk;
 
 ghost use Rattle.std.specs.Prelude.{◌≡◌, ◌++◌, ◌≤◌, length, take, drop};
@@ -22,7 +24,7 @@ const FIRST_LINE: usize = 1;
 
 // What the next line leads to: the next place, where what follows starts, and where the numbers so
 // far end in the table.
-#[derive(Drop)]
+#[derive(Clone, Copy)]
 enum Line {
     Halted(Fault),
     Reached {
@@ -33,7 +35,7 @@ enum Line {
 }
 
 // How the lines end: the first fault and its line, or the whole diagram, with its table's length and what it has.
-#[derive(Drop)]
+#[derive(Clone, Copy)]
 enum Lines {
     Faulty {
         fault: Fault,
@@ -50,7 +52,7 @@ enum Lines {
 
 // How reading a text ends: accepted with the table's length, refused with 1 to 6, or with 8 where the
 // table is too short. A refused call writes nothing.
-#[derive(Drop)]
+#[derive(Clone, Copy)]
 pub enum Conversion {
     Accepted { length: usize },
     Refused { fault: Fault, line: usize },
@@ -58,7 +60,7 @@ pub enum Conversion {
 }
 
 // How reading a table ends: accepted with what its diagram has, or refused with 1 to 6.
-#[derive(Drop)]
+#[derive(Clone, Copy)]
 pub enum FormAnswer {
     Accepted {
         types: usize,

@@ -15,8 +15,8 @@ use Rattle.orm.specs.WellFormed.{TypeForm, RoleForm, GroupForm, PredForm, WellFo
 use Rattle.reading.specs.TextLength.{first_small}
 use Rattle.reading.specs.WideTable.{wide_table}
 use Rattle.reading.specs.WideLines.{limited, wide_as_limited}
-use Rattle.reading.specs.TableLength.{wide-length}
-use Rattle.orm.specs.Laws.Bounds.{length-upper}
+use Rattle.reading.proofs.TableLength.{wide-length}
+use Rattle.orm.proofs.Laws.Bounds.{length-upper}
 use Rattle.table.specs.Valid.{Valid, Under}
 use Rattle.table.specs.Positions.{preds_length, type_count, pred_count, first_pred_at, diagram_of, Walkable}
 use Rattle.table.specs.Laws.Walks.{each-length, preds-length}
@@ -69,6 +69,7 @@ module _ {A : Type 0} where
 -- a numbered statement gives one of each element
 pub each_of : {A : Type 0} (P : ℕ → A → Type 0) (Q : A → Type 0) → ((n : ℕ) (a : A) → P n a → Q a) → (n : ℕ) (xs : List A)
     → EachFrom P n xs → Each Q xs
+each_of {A = A} P Q f n [] h a x'' = elim x'' [ ]
 each_of P Q f n (x ∷ xs) h a (here e) = subst⁻¹ Q e (f n x h.0)
 each_of P Q f n (x ∷ xs) h a (there m) = each_of P Q f (suc n) xs h.1 a m
 

@@ -7,7 +7,7 @@ use Rattle.std.proofs.Math.Path.{ap}
 use mathlib.Core.List.{List, [], ◌∷◌, ◌++◌, flat_map}
 use Rattle.std.proofs.Math.ListN.{length, length-append}
 use Rattle.std.specs.Int.{w32}
-pub use Rattle.counting.specs.Laws.Lines.{each_more, each_none, each-length}
+pub use Rattle.counting.proofs.Laws.Lines.{each_more, each_none, each-length}
 use Rattle.orm.specs.Diagram.{Predicate, all_roles}
 use Rattle.orm.specs.Form.{group_of}
 use Rattle.table.specs.Positions.{role_width, wide_role, roles_in, groups_in, roles_start, groups_start, roles_of, groups_of, pred_of, pred_length, preds_in, preds_length, type_count, pred_count, first_pred_at, diagram_of, Walkable}

@@ -9,7 +9,7 @@ use Rattle.std.proofs.Common.{sym, ◌∙◌, drop-drop}
 use mathlib.Core.List.{List, [], ◌∷◌, ◌++◌, map, flat_map, append_assoc}
 use Rattle.std.proofs.Math.ListN.{length, drop, length-append}
 use Rattle.std.proofs.Math.Seq.{drop_at}
-use Rattle.counting.specs.Laws.Maps.{flat_map_append}
+use Rattle.counting.proofs.Laws.Maps.{flat_map_append}
 use Rattle.orm.specs.Diagram.{ObjectType, Role, Frequency, Predicate, Diagram, Line, line_of_type, line_of_role, line_of_group, line_of_pred}
 use Rattle.orm.specs.Diagram.{lines_of_pred, line_of_count, preds_line, end_line, limits_roles, all_roles, lines, table}
 use Rattle.orm.specs.Form.{type_of, group_of}

@@ -11,7 +11,7 @@ use Rattle.orm.specs.Outcome.{Outcome, refused, accepted, ◌>>=◌, buffer_afte
 use Rattle.orm.specs.Calls.{diagram_in}
 use Rattle.reading.specs.Laws.{table-accepted-iff}
 use Rattle.reading.specs.WideTable.{wide_table, most_numbers}
-use Rattle.reading.specs.TableLength.{wide_short}
+use Rattle.reading.proofs.TableLength.{wide_short}
 use Rattle.grammar.specs.declared.Fault.{Fault}
 use Rattle.grammar.specs.Fault.{number_of}
 use Rattle.reader.specs.Answer.{form_of, totalled}

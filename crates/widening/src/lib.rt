@@ -1,5 +1,7 @@
 // The table of a file, checked and written with role lines of one width: what every other crate walks.
 // In `diagram=1` 1 and 4096 come behind the numbers of each role line, which limit nothing.
+#![tactic(auto)]
+
 ghost use Rattle.std.specs.Prelude.{◌≡◌, ◌+◌, ◌*◌, ◌≤◌, length, take, drop, replicate};
 ghost use Rattle.orm.specs.Text.{table_line};
 ghost use Rattle.orm.specs.Outcome.{buffer_after};
@@ -20,7 +22,7 @@ const RMIN: u32 = 1;
 const RMAX: u32 = 4096;
 
 // How a table is accepted: refused with 1 to 6; or widened, with its length and what its diagram has.
-#[derive(Drop)]
+#[derive(Clone, Copy)]
 pub enum Acceptance {
     Refused {
         fault: Fault,

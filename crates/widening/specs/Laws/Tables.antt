@@ -10,14 +10,14 @@ use Rattle.std.proofs.Math.ListN.{length, take, drop, length-append}
 use borrow.Author.Tests.{eqb-true, eqb-false}
 use Rattle.std.proofs.Math.Seq.{append_snoc, take_at, drop_at}
 use Rattle.counting.specs.Lists.{each}
-use Rattle.counting.specs.Laws.Maps.{flat_map_append}
+use Rattle.counting.proofs.Laws.Maps.{flat_map_append}
 use Rattle.orm.specs.Diagram.{ObjectType, Role, Frequency, Predicate, Diagram, Line, line_of_type, line_of_role, line_of_group, line_of_pred}
 use Rattle.orm.specs.Diagram.{lines_of_pred, line_of_count, diagram_line, types_line, preds_line, end_line, limits_roles, role_line_of, all_roles, lines, table}
 use Rattle.orm.specs.WellFormed.{WellFormed}
 use Rattle.orm.specs.Form.{role_fields}
 use Rattle.reading.specs.WideTable.{added, wide_line, wide_table, most_numbers}
 use Rattle.reading.specs.WideLines.{limited-table}
-use Rattle.reading.specs.TableLength.{table-length, table-short, wide_short}
+use Rattle.reading.proofs.TableLength.{table-length, table-short, wide_short}
 use Rattle.widening.specs.Widened.{roles_widened, groups_behind, pred_fields, pred_widened, preds_fields, preds_widened, plain_fields, plain_widened, table_widened, FitsKind}
 
 -- The numbers of some lines, in a file and with role lines of one width

@@ -8,7 +8,7 @@ use mathlib.Core.List.{List, [], ◌∷◌, ◌++◌, flat_map}
 use Rattle.std.proofs.Math.ListN.{length, get_or, take, drop, length-drop}
 use Rattle.std.proofs.Math.Seq.{drop-drop, get_or-drop, length-take-le}
 use Rattle.counting.specs.Lists.{each}
-use Rattle.counting.specs.Laws.Lines.{each_more, each_none}
+use Rattle.counting.proofs.Laws.Lines.{each_more, each_none}
 use Rattle.orm.specs.Diagram.{limits_roles}
 use Rattle.orm.specs.Form.{role_fields}
 use Rattle.reading.specs.WideTable.{role_width}

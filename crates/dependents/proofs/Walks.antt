@@ -10,7 +10,7 @@ use mir.Syntax.{w64}
 use mir.Val.{Fits}
 use Rattle.fixpoint.specs.Limits.{lowered, round}
 use Rattle.fixpoint.specs.Notions.{◌≼◌}
-use Rattle.fixpoint.specs.Laws.Order.{≼_refl, ≼_trans}
+use Rattle.fixpoint.proofs.Laws.Order.{≼_refl, ≼_trans}
 use Rattle.buffer.specs.Written.{Wrote}
 use Rattle.lowering.specs.Encoding.{limit_at, decode}
 use Rattle.lowering.specs.Closed.{Whole}

@@ -5,8 +5,8 @@ use Rattle.std.proofs.Math.Path.{subst⁻¹}
 use Rattle.counting.specs.Terms.{◌∈◌}
 use Rattle.fixpoint.specs.Limits.{Limit, value_of, lowered, round}
 use Rattle.fixpoint.specs.Notions.{◌≼◌}
-use Rattle.fixpoint.specs.Laws.Order.{≼_refl, ≼_trans, ≼_antisym}
-use Rattle.fixpoint.specs.Laws.Round.{le_lowered, le_round, round_≼, round-target}
+use Rattle.fixpoint.proofs.Laws.Order.{≼_refl, ≼_trans, ≼_antisym}
+use Rattle.fixpoint.proofs.Laws.Round.{le_lowered, le_round, round_≼, round-target}
 use Rattle.lowering.specs.Encoding.{limit_at, decode}
 use Rattle.lowering.specs.Closed.{Start}
 use Rattle.lowering.specs.Laws.Lowered.{length-lowered, lowered-below}

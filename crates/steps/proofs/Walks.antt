@@ -6,7 +6,7 @@ use mathlib.Core.List.{List}
 use native.Mathlib.Nat.{zero-add}
 use native.Mathlib.Omega.{arith}
 use lib.ListN.{length, get_or}
-use Rattle.counting.specs.Laws.Index.{At, first, later}
+use Rattle.counting.specs.Index.{At, first, later}
 use Rattle.fixpoint.specs.Limits.{Limit, lowers, any_lowers}
 use Rattle.lowering.specs.Encoding.{limit_at, decode_from, decode}
 use Rattle.lowering.specs.Laws.Decoding.{decode-more, decode-none}

@@ -1,6 +1,6 @@
 -- Where a limit with a number stands among the numbers of all.
 use Rattle.std.specs.Prelude.{ℕ, ◌+◌, ◌≤◌, List, length}
-use Rattle.counting.specs.Laws.Index.{At as AtIndex}
+use Rattle.counting.specs.Index.{At as AtIndex}
 use Rattle.lowering.specs.Encoding.{limit_at, decode}
 use Rattle.lowering.specs.Closed.{Start}
 use Rattle.steps.specs.declared.Found.{Found}

@@ -1,5 +1,7 @@
 // Single limits by their numbers, from 0: how many there are, where one starts, and whether any lowers a
 // size. Limits stand in a slice of numbers, as specs/Encoding.antt of lowering says.
+#![tactic(auto)]
+
 ghost use Rattle.std.specs.Prelude.{◌≡◌, length};
 ghost use Rattle.fixpoint.specs.Limits.{any_lowers};
 ghost use Rattle.lowering.specs.Encoding.{decode};
@@ -20,7 +22,7 @@ pub fn count(limits: &[u32]) -> usize
 }
 
 // Where a limit starts, if there is one with the number.
-#[derive(Drop)]
+#[derive(Clone, Copy)]
 pub enum Found {
     At { start: usize },
     Past,

@@ -13,11 +13,11 @@ use borrow.Author.Tests.{eq-eqb, ne_eqb}
 use mir.Syntax.{w32}
 use mir.Val.{Fits}
 use Rattle.counting.specs.Lists.{same}
-use Rattle.counting.specs.Laws.Distinct.{apart-of-false}
-use Rattle.counting.specs.Laws.Instances.{same_decides}
+use Rattle.counting.proofs.Laws.Distinct.{apart-of-false}
+use Rattle.counting.proofs.Laws.Instances.{same_decides}
 use Rattle.fixpoint.specs.Limits.{Limit, Verdict, unsatisfiable, fixpoint, round, upper_after, first_below, slack, run_from, run}
-use Rattle.fixpoint.specs.Laws.Round.{round_≼}
-use Rattle.fixpoint.specs.Laws.Tests.{Found, first_below-found, slack_less}
+use Rattle.fixpoint.proofs.Laws.Round.{round_≼}
+use Rattle.fixpoint.proofs.Laws.Tests.{Found, first_below-found, slack_less}
 use Rattle.buffer.specs.Written.{Wrote}
 use Rattle.buffer.specs.Laws.{wrote-whole, wrote-end, wrote-front, wrote-within, wrote-long}
 use Rattle.lowering.specs.Encoding.{decode}

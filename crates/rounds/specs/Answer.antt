@@ -1,5 +1,5 @@
 -- What the functions answer, in the words of Limits.antt.
-use Rattle.std.specs.Prelude.{ℕ, zero, suc, ◌+◌, ◌≤◌, ◌≡◌, true, false, List, [], ◌∷◌, ◌++◌, ltb, length, get_or, take, drop}
+use Rattle.std.specs.Prelude.{ℕ, zero, suc, ◌≤◌, ◌≡◌, true, false, List, [], ◌∷◌, ◌++◌, ltb, length, get_or, take, drop}
 use Rattle.std.proofs.Math.Option.{Option, none, some}
 use Rattle.fixpoint.specs.Limits.{Limit, Verdict, unsatisfiable, fixpoint, first_below, round, upper_after, run}
 use Rattle.buffer.specs.Written.{Wrote}

@@ -1,5 +1,7 @@
 // Rounds over limits of sizes: the upper bounds are lowered until one falls below its lower bound
 // or nothing changes. Limits stand in a slice of numbers, as specs/Encoding.antt of lowering says.
+#![tactic(auto)]
+
 ghost use Rattle.std.specs.Prelude.{◌≡◌, ◌-◌, length};
 ghost use Rattle.std.proofs.Math.Option.{none};
 ghost use Rattle.fixpoint.specs.Limits.{upper_after, first_below, run};
@@ -10,7 +12,7 @@ ghost use Rattle.rounds.specs.Answer.{lowest_of, step_from, outcome_of, rounds_o
 ghost use Rattle.rounds.specs.Answer.{LinksAfter, Bounds, Scratch, Standing, Later, Continued, Advanced, Relinked, Ended};
 
 // The lowest set that is below its lower bound, or none.
-#[derive(Drop)]
+#[derive(Clone, Copy)]
 enum Lowest {
     At(usize),
     Nowhere,
@@ -18,7 +20,7 @@ enum Lowest {
 
 // What a round comes to: an upper bound is below its lower bound, that of this set the lowest; nothing
 // was lowered; or so many sets were.
-#[derive(Drop)]
+#[derive(Clone, Copy)]
 pub enum Progress {
     Emptied { set: usize },
     Settled,
@@ -26,7 +28,7 @@ pub enum Progress {
 }
 
 // How a run ends.
-#[derive(Drop)]
+#[derive(Clone, Copy)]
 pub enum Outcome {
     Unsatisfiable { set: usize, round: u32 },
     Fixpoint { rounds: u32 },

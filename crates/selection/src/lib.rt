@@ -1,5 +1,7 @@
 // The roles of a valid table that are of one type, or in one group: their sets, and how many they are.
 // Each function that writes does so from the index `at` on and answers the index behind.
+#![tactic(auto)]
+
 pub mod players;
 
 ghost use Rattle.std.specs.Prelude.{◌≡◌, not, ◌+◌, ◌*◌, ◌-◌, ◌≤◌, ◌<◌, eqb, length, get_or, drop};

@@ -6,8 +6,8 @@ use mathlib.Core.List.{List, [], ◌∷◌, ◌++◌, flat_map, map-append}
 use borrow.Author.Tests.{lt-ltb, ne_eqb}
 use Rattle.counting.specs.Lists.{when}
 use Rattle.counting.specs.Distinct.{member}
-use Rattle.counting.specs.Laws.Distinct.{member_append}
-use Rattle.counting.specs.Laws.Instances.{eqb-sym}
+use Rattle.counting.proofs.Laws.Distinct.{member_append}
+use Rattle.counting.proofs.Laws.Instances.{eqb-sym}
 use Rattle.orm.specs.Diagram.{Role, Predicate, all_roles, is_root, is_independent, plays, must_play}
 use Rattle.orm.specs.Form.{type_of}
 use Rattle.table.specs.Positions.{role_width, roles_in, roles_start, roles_of, preds_in, pred_length, pred_count, first_pred_at, diagram_of}

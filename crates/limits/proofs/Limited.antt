@@ -11,7 +11,7 @@ use Rattle.orm.specs.Form.{group_of}
 use Rattle.counting.specs.Lists.{up_from}
 use Rattle.fixpoint.specs.Limits.{Limit, product}
 use Rattle.orm.specs.Sets.{Part, group_set, group_roles, group_part, role_part, parts, at_most, only_if, limits_of_role, limits_of_group, limit_of_rows}
-use Rattle.counting.specs.Laws.Range.{length-up_from}
+use Rattle.counting.proofs.Laws.Range.{length-up_from}
 use Rattle.lowering.specs.Encoding.{encode_expr, encode}
 use Rattle.lowering.specs.Laws.Decoding.{encode_append}
 use Rattle.buffer.specs.Written.{Wrote}

@@ -7,7 +7,7 @@ use lib.ListN.{length, take, drop, length-map}
 use lib.Seq.{length-take-le}
 use Rattle.orm.specs.Diagram.{Role, all_roles}
 use Rattle.orm.specs.Sets.{lower, upper}
-use Rattle.orm.specs.Laws.Bounds.{bounds-paired}
+use Rattle.orm.proofs.Laws.Bounds.{bounds-paired}
 use Rattle.buffer.specs.Written.{Wrote}
 use Rattle.buffer.specs.Laws.{wrote-end, wrote-front, wrote-within, wrote-whole}
 use Rattle.table.specs.Positions.{diagram_of}

@@ -1,6 +1,8 @@
 // What the rounds of a valid table's diagram start from: the lower and upper bounds of its sets and the
 // limits between them, written into lent arrays. Limits are numbers, as specs/Encoding.antt of lowering
 // says.
+#![tactic(auto)]
+
 mod preds;
 mod ranges;
 mod roles;
@@ -27,7 +29,7 @@ pub const MOST_SETS: usize = 208;
 pub const MOST_LIMITS: usize = 3776;
 
 // How many sets a diagram has, and how many numbers its limits take.
-#[derive(Drop)]
+#[derive(Clone, Copy)]
 pub struct Extent {
     pub sets: usize,
     pub limits: usize,

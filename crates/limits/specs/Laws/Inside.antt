@@ -8,20 +8,21 @@ use Rattle.std.proofs.Math.ListN.{length, length-append}
 use borrow.Author.Tests.{eqb-false, not-true}
 use Rattle.counting.specs.Lists.{up_from, map_from}
 use Rattle.counting.specs.Terms.{Each}
-use Rattle.counting.specs.Laws.Index.{At, at_in, at-below, each-from-at, of-flatten-map_from}
-use Rattle.counting.specs.Laws.Members.{each_nil, each-cons, each-head, each_tail, each_append, each_map, of-flat_map}
-use Rattle.counting.specs.Laws.Range.{of-up_from}
+use Rattle.counting.proofs.Laws.Index.{at_in, at-below, each-from-at, of-flatten-map_from}
+use Rattle.counting.specs.Index.{At}
+use Rattle.counting.proofs.Laws.Members.{each_nil, each-cons, each-head, each_tail, each_append, each_map, of-flat_map}
+use Rattle.counting.proofs.Laws.Range.{of-up_from}
 use Rattle.fixpoint.specs.Limits.{Limit}
 use Rattle.lowering.specs.Closed.{Inside, operands_of}
 use Rattle.orm.specs.Diagram.{ObjectType, Role, Frequency, Predicate, Diagram, is_root, must_play, is_mandatory, is_grouped, index}
 use Rattle.orm.specs.Diagram.{all_roles, all_groups}
-use Rattle.orm.specs.Laws.Limits.{each-only_if}
-use Rattle.orm.specs.Laws.Select.{of-select}
+use Rattle.orm.proofs.Laws.Limits.{each-only_if}
+use Rattle.orm.proofs.Laws.Select.{of-select}
 use Rattle.orm.specs.Sets.{first_pred, first_role, first_group, upper, select, roles_of_type, roles_in_group, Placed, placed_from, placed}
 use Rattle.orm.specs.Sets.{group_set, group_roles, Part, group_part, role_part, parts, at_most, limits_of_role, limits_of_group}
 use Rattle.orm.specs.Sets.{limit_of_rows, limits_of_pred, limits_of_type, limits}
 use Rattle.orm.specs.WellFormed.{TypeForm, PredForm, WellFormed}
-use Rattle.orm.specs.Laws.Bounds.{length-upper}
+use Rattle.orm.proofs.Laws.Bounds.{length-upper}
 
 -- ---- limits and operands among the first n sets
 

@@ -11,16 +11,16 @@ use Rattle.orm.specs.Diagram.{all_roles, all_groups}
 use Rattle.counting.specs.Lists.{up_from, map_from}
 use Rattle.fixpoint.specs.Limits.{Limit, product, sum}
 use Rattle.counting.specs.Terms.{Each}
-use Rattle.counting.specs.Laws.Range.{length-up_from}
+use Rattle.counting.proofs.Laws.Range.{length-up_from}
 use Rattle.orm.specs.WellFormed.{PredForm, WellFormed}
-use Rattle.orm.specs.Laws.Select.{played_from, played-few, played-split}
+use Rattle.orm.proofs.Laws.Select.{played_from, played-few, played-split}
 use Rattle.orm.specs.Sets.{first_pred, first_role, first_group, select, roles_of_type, roles_in_group, Placed}
 use Rattle.orm.specs.Sets.{placed_from, placed, group_set, group_roles, Part, group_part, role_part, parts, at_most, only_if, limits_of_role}
 use Rattle.orm.specs.Sets.{limits_of_group, limit_of_rows, limits_of_pred, limits_of_type, limits}
 use Rattle.lowering.specs.Encoding.{encode_expr, encode}
 use Rattle.lowering.specs.Laws.Decoding.{encode_append}
 use Rattle.reading.specs.WideTable.{wide_table}
-use Rattle.reading.specs.TableLength.{wide-length}
+use Rattle.reading.proofs.TableLength.{wide-length}
 use Rattle.limits.specs.Prepared.{most_limits}
 
 abbrev size : List Limit → ℕ

@@ -1,12 +1,12 @@
 -- What the rounds of a well-formed diagram start from: bounds inside its own.
 use Rattle.std.specs.Prelude.{ℕ, ◌≤◌, List}
 use Rattle.std.proofs.Common.{arith, sym, ◌∙◌}
-use Rattle.counting.specs.Laws.Members.{each-get_or}
+use Rattle.counting.proofs.Laws.Members.{each-get_or}
 use Rattle.orm.specs.Diagram.{Diagram}
 use Rattle.orm.specs.WellFormed.{WellFormed}
 use Rattle.orm.specs.Sets.{upper, limits}
-use Rattle.orm.specs.Laws.Bounds.{bounds-paired, upper-few, upper-small}
-use Rattle.orm.specs.Laws.Rounds.{Inside}
+use Rattle.orm.proofs.Laws.Bounds.{bounds-paired, upper-few, upper-small}
+use Rattle.orm.specs.Inside.{Inside}
 use Rattle.lowering.specs.Encoding.{encode}
 use Rattle.lowering.specs.Laws.Closed.{closed-encode}
 use Rattle.rounds.specs.Answer.{Bounds}

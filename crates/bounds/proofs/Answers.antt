@@ -9,7 +9,7 @@ use lib.ListN.{length, get_or, get_or-eq_default}
 use mir.Syntax.{w64}
 use mir.Val.{Fits}
 use Rattle.fixpoint.specs.Limits.{Limit, Verdict, unsatisfiable, fixpoint, run, upper_after}
-use Rattle.fixpoint.specs.Laws.{run-laws}
+use Rattle.fixpoint.proofs.Laws.{run-laws}
 use Rattle.orm.specs.Outcome.{Outcome, refused, accepted, ◌>>=◌, buffer_after, Sized, written}
 use Rattle.rounds.specs.declared.Outcome.{Outcome as Ended}
 use Rattle.rounds.specs.declared.Outcome.TheVariants.{Unsatisfiable, Fixpoint}

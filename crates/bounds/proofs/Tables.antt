@@ -22,7 +22,7 @@ use Rattle.buffer.specs.Laws.{wrote-end, wrote-front, wrote-within}
 use Rattle.table.specs.Positions.{diagram_of}
 use Rattle.table.specs.Valid.{Valid}
 use Rattle.table.specs.Laws.Valid.{sets-few}
-use Rattle.orm.specs.Laws.Bounds.{length-lower, upper-sets, bounds-paired, lower-few}
+use Rattle.orm.proofs.Laws.Bounds.{length-lower, upper-sets, bounds-paired, lower-few}
 use Rattle.limits.specs.Prepared.{most_sets, most_limits, ValidTotals, Roomy, Prepared}
 use Rattle.limits.specs.declared.Extent.{Extent}
 use Rattle.limits.specs.Laws.Room.{limits-fit, few-limits-fit}

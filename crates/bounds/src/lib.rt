@@ -1,5 +1,7 @@
 // The check: the sizes of a diagram's sets, from its table. The table is widened, the bounds and
 // limits of the sets are written into local arrays, and the rounds run over them.
+#![tactic(auto)]
+
 mod narrowing;
 
 ghost use Rattle.std.specs.Prelude.{◌≡◌, ◌≤◌, length};
@@ -21,7 +23,7 @@ use widening::Acceptance;
 // How a check ends, or any call that makes something of the settled sizes: the table is refused (1 to
 // 6), a set is emptied (7), the buffer is too short for the result (8), or the result stands at its
 // front.
-#[derive(Drop)]
+#[derive(Clone, Copy)]
 pub enum Settlement {
     Refused { fault: grammar::Fault, line: usize },
     Unsatisfiable { set: usize, round: u32 },
@@ -31,14 +33,14 @@ pub enum Settlement {
 
 // The bounds that the rounds start from: the diagram's own, or these with the set at this index kept to
 // one size.
-#[derive(Drop)]
+#[derive(Clone, Copy)]
 pub enum Start {
     Own,
     Kept { set: usize, size: u32 },
 }
 
 // What is to be settled of a diagram with so many roles and groups.
-#[derive(Drop)]
+#[derive(Clone, Copy)]
 struct Problem {
     roles: u32,
     groups: u32,

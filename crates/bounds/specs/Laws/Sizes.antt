@@ -1,15 +1,16 @@
 -- The sizes that the rounds settle on: how many they are, that none is 0, and that they are small.
 use Rattle.std.specs.Prelude.{ℕ, ◌≤◌, ◌<◌, ◌≡◌, List, length, get_or}
 use Rattle.std.proofs.Common.{arith, ◌∙◌}
-use Rattle.counting.specs.Laws.Members.{each-get_or, get_or_in}
+use Rattle.counting.proofs.Laws.Members.{each-get_or, get_or_in}
 use Rattle.fixpoint.specs.Limits.{fixpoint}
 use Rattle.fixpoint.specs.Notions.{◌≼◌, Solution}
-use Rattle.fixpoint.specs.Laws.Order.{≼_trans}
+use Rattle.fixpoint.proofs.Laws.Order.{≼_trans}
 use Rattle.orm.specs.Diagram.{Diagram}
 use Rattle.orm.specs.Sets.{set_count, lower, upper, limits, verdict_from}
 use Rattle.orm.specs.WellFormed.{WellFormed}
-use Rattle.orm.specs.Laws.Rounds.{Inside, inside-laws}
-use Rattle.orm.specs.Laws.Bounds.{upper-sets, upper-few, lower-positive, upper-small}
+use Rattle.orm.proofs.Laws.Rounds.{inside-laws}
+use Rattle.orm.specs.Inside.{Inside}
+use Rattle.orm.proofs.Laws.Bounds.{upper-sets, upper-few, lower-positive, upper-small}
 use Rattle.limits.specs.Prepared.{most_sets}
 
 module _ (d : Diagram) (w : WellFormed d) {low high : List ℕ} (i : Inside d low high) {n : ℕ} {c : List ℕ} (e : verdict_from d low high ≡ fixpoint n c) where

@@ -4,8 +4,9 @@ use Rattle.std.proofs.Common.{length-set}
 use Rattle.orm.specs.Diagram.{Diagram}
 use Rattle.orm.specs.Sets.{set_count, lower, upper}
 use Rattle.orm.specs.Prescribe.{raised_at, capped_at}
-use Rattle.orm.specs.Laws.Rounds.{Inside, own-bounds}
-use Rattle.orm.specs.Laws.Prescribe.{prescribed-inside}
+use Rattle.orm.proofs.Laws.Rounds.{own-bounds}
+use Rattle.orm.specs.Inside.{Inside}
+use Rattle.orm.proofs.Laws.Prescribe.{prescribed-inside}
 use Rattle.bounds.specs.Start.{lower_by, upper_by, Starts}
 use Rattle.bounds.specs.declared.Start.{Start}
 use Rattle.bounds.specs.declared.Start.TheVariants.{Own, Kept}

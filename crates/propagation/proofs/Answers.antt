@@ -6,10 +6,10 @@ use mathlib.Core.Bool.{Bool}
 use mathlib.Core.List.{List, ◌++◌}
 use lib.ListN.{length, take, drop}
 use lib.Seq.{length-take-le}
-use Rattle.counting.specs.Laws.Index.{at-below}
+use Rattle.counting.proofs.Laws.Index.{at-below}
 use Rattle.fixpoint.specs.Limits.{Limit, lowered, step_at, lowers_at, any_lowers}
 use Rattle.fixpoint.specs.Limits as one
-use Rattle.fixpoint.specs.Laws.AnyOrder.{step_at-is, lowers_at-is}
+use Rattle.fixpoint.proofs.Laws.AnyOrder.{step_at-is, lowers_at-is}
 use Rattle.orm.specs.Diagram.{all_groups}
 use Rattle.orm.specs.Text.{table_line}
 use Rattle.orm.specs.Sets.{upper}
@@ -17,8 +17,8 @@ use Rattle.orm.specs.Outcome.{Outcome, refused, accepted, ◌>>=◌, fitted, buf
 use Rattle.orm.specs.Calls.{diagram_in}
 use Rattle.orm.specs.SingleLimits.{front_of, lower_call, survey_call}
 use Rattle.orm.specs.SingleLimits as single
-use Rattle.orm.specs.Laws.Bounds.{upper-sets}
-use Rattle.orm.specs.Laws.SingleLimits.{number-there, number-none, front-there, front-short}
+use Rattle.orm.proofs.Laws.Bounds.{upper-sets}
+use Rattle.orm.proofs.Laws.SingleLimits.{number-there, number-none, front-there, front-short}
 use Rattle.reading.specs.Laws.{fits, does_not-fit}
 use Rattle.grammar.specs.declared.Fault.{Fault}
 use Rattle.reader.specs.declared.Conversion.TheVariants as conversions

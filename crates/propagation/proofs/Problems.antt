@@ -11,8 +11,8 @@ use Rattle.orm.specs.Sets.{upper, limits}
 use Rattle.orm.specs.Outcome.{Outcome, refused, accepted, fitted, buffer_after}
 use Rattle.orm.specs.Calls.{diagram_in}
 use Rattle.orm.specs.SingleLimits.{start_call}
-use Rattle.orm.specs.Laws.Bounds.{upper-sets}
-use Rattle.orm.specs.Laws.Rounds.{own-bounds}
+use Rattle.orm.proofs.Laws.Bounds.{upper-sets}
+use Rattle.orm.proofs.Laws.Rounds.{own-bounds}
 use Rattle.grammar.specs.declared.Fault.{Fault}
 use Rattle.grammar.specs.Fault.{number_of}
 use Rattle.reader.specs.declared.Conversion.{Conversion}

@@ -1,5 +1,7 @@
 // One limit at a time, on upper bounds that the caller keeps: those that the rounds start from, one limit
 // put to use on them, and whether any limit lowers one. Limits have numbers, from 0.
+#![tactic(auto)]
+
 ghost use Rattle.std.specs.Prelude.{◌≡◌, length};
 ghost use Rattle.orm.specs.Text.{table_line};
 ghost use Rattle.orm.specs.Outcome.{accepted, fitted, length_of, buffer_after};
@@ -21,7 +23,7 @@ use widening::Acceptance;
 // How a call ends that puts a limit to use, or asks whether any would lower a bound: the table is refused
 // (1 to 6), no limit has the number (10), there are fewer bounds than sets (8), or it says whether a limit
 // lowers one, with the number of sets or of limits.
-#[derive(Drop)]
+#[derive(Clone, Copy)]
 pub enum Propagation {
     Refused { fault: grammar::Fault, line: usize },
     NoLimit { number: u32 },
@@ -30,7 +32,7 @@ pub enum Propagation {
 }
 
 // The limits of a diagram: how many numbers they take, and between how many sets they are.
-#[derive(Drop)]
+#[derive(Clone, Copy)]
 enum Problem {
     Refused { fault: grammar::Fault, line: usize },
     Ready { limits: usize, sets: usize },

@@ -8,7 +8,7 @@ use lib.Dec.{leb}
 use lib.ListN.{get_or}
 use Rattle.pairing.specs.Pairing.{lcm}
 use Rattle.pairing.specs.Multiples.{multiples, multiple_at, Listed, has_row, listed}
-use Rattle.pairing.specs.Laws.Multiples.{multiple-is}
+use Rattle.pairing.proofs.Laws.Multiples.{multiple-is}
 
 pub row_zero : (x : ℕ) → x ≡ 0 → false ≡ has_row x
 unfolding has_row

@@ -1,4 +1,6 @@
 // The least common multiple of two numbers of 1..64, from a constant table.
+#![tactic(auto)]
+
 mod table;
 
 ghost use Rattle.std.specs.Prelude.{◌≡◌};

@@ -10,7 +10,7 @@ use lib.Seq.{get_or-drop}
 use mir.Syntax.{w32}
 use mir.Val.{Fits}
 use Rattle.pairing.specs.Pairing.{gcd_within, gcd, lcm}
-use Rattle.pairing.specs.Laws.{gcd_within-enough}
+use Rattle.pairing.proofs.Laws.{gcd_within-enough}
 use Rattle.tuples.specs.Steps.{entry_at, index_before, Below}
 
 pub quotient-zero : (x : ℕ) {k : ℕ} → k ≡ 0 → 0 ≡ x / k

@@ -48,8 +48,8 @@ module _ (want : ℕ) where
 
       rows : (rest : List ℕ) (i : ℕ) → tuple_in (pre ++ step ++ rest) (suc (suc m)) i ≡ (paired_with want r t).row i
       rows rest i =
-          rw (append_assoc pre step rest)
-          (ap₂ {C = List ℕ} (λ l x. l ++ (x ∷ []))
+          ap (λ (s : List ℕ). tuple_in s (suc (suc m)) i) (append_assoc pre step rest)
+          ∙ (ap₂ {C = List ℕ} (λ l x. l ++ (x ∷ []))
           (g.rows (step ++ rest) (index_before (pre ++ (step ++ rest)) (suc m) i) ∙ ap r.row
           (index-here pre (suc m) g.long r.count (lcm r.count t) t rest i))
           (entry_here pre (suc m) g.long r.count (lcm r.count t) t rest i))

@@ -1,6 +1,8 @@
 // Tuples of members by their indices, spread evenly over the members of the sets. A pairing is
 // prepared once, as three numbers for each of its sets; a row is then computed from its number.
 // Nothing here speaks of a diagram.
+#![tactic(auto)]
+
 ghost use Rattle.std.specs.Prelude.{◌≡◌, [], ◌∷◌, ◌+◌, ◌*◌, ◌/◌, ◌%◌, ◌≤◌, ◌<◌, min, length, get_or, drop, set};
 ghost use Rattle.buffer.specs.Written.{Wrote};
 ghost use Rattle.pairing.specs.Pairing.{gcd, lcm};

@@ -8,8 +8,8 @@ use lib.ListN.{length, get_or, drop, length-append}
 use mir.Syntax.{w64}
 use mir.Val.{Fits}
 use Rattle.counting.specs.Lists.{up_from}
-use Rattle.counting.specs.Laws.Range.{length-up_from}
-use Rattle.counting.specs.Laws.Index.{length-map_from}
+use Rattle.counting.proofs.Laws.Range.{length-up_from}
+use Rattle.counting.proofs.Laws.Index.{length-map_from}
 use Rattle.orm.specs.Diagram.{Diagram}
 use Rattle.orm.specs.Form.{type_of}
 use Rattle.orm.specs.Sets.{Placed, placed}

@@ -11,8 +11,8 @@ use borrow.Author.Tests.{eqb-true}
 use lib.ListN.{length, get_or, drop, take, replicate, length-append, length-map, drop_of_length-le}
 use lib.Seq.{drop-cons, length-take-le}
 use Rattle.counting.specs.Lists.{up_from}
-use Rattle.counting.specs.Laws.Range.{length-up_from}
-use Rattle.counting.specs.Laws.Maps.{flat_map_append, flat_map-map, flat_map-single}
+use Rattle.counting.proofs.Laws.Range.{length-up_from}
+use Rattle.counting.proofs.Laws.Maps.{flat_map_append, flat_map-map, flat_map-single}
 use Rattle.orm.specs.Diagram.{Role}
 use Rattle.orm.specs.Sets.{Placed, Part, parts, group_part, role_part, group_set, group_roles, roles_in_group, select}
 use Rattle.orm.specs.Populate.{size}

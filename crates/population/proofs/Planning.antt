@@ -1,5 +1,5 @@
 -- What is prepared for a predicate, from what stands at the front of the scratch.
-use Prim.Native.Nat.{ℕ, zero, suc, ◌+◌, ◌-◌, ◌≤◌}
+use Prim.Native.Nat.{ℕ, zero, suc, ◌-◌, ◌≤◌}
 use native.Mathlib.Omega.{arith}
 use mathlib.Core.Path.{◌≡◌, sym, ap, ap₂, ◌∙◌}
 use mathlib.Core.List.{List, [], ◌∷◌, ◌++◌, map, append-nil}
@@ -14,7 +14,7 @@ use Rattle.table.specs.declared.Cursor.{Cursor}
 use Rattle.tuples.specs.Steps.{padded, steps, Small}
 use Rattle.tuples.specs.StepsLaws.{padded-front}
 use Rattle.tuples.specs.Nested.{steps_of_each}
-use Rattle.population.specs.Plan.{order, owns, sizes_of, Wants, Listed, SmallArity, Ordered, Opened, Owned}
+use Rattle.population.specs.Plan.{owns, sizes_of, Wants, Listed, SmallArity, Ordered, Opened, Owned}
 use Rattle.population.proofs.PartLaws.{grouped, order-few, parts-few, gathered, gathered-parts, gathered-end}
 
 -- sizes of sets are small

@@ -10,7 +10,7 @@ use lib.Dec.{eqb}
 use lib.ListN.{length, get_or, drop, take, length-append, length-map}
 use Rattle.counting.specs.Lists.{up_from, map_from}
 use Rattle.counting.specs.Terms.{Each}
-use Rattle.counting.specs.Laws.Range.{length-up_from}
+use Rattle.counting.proofs.Laws.Range.{length-up_from}
 use Rattle.orm.specs.Diagram.{Role, Predicate, Diagram, index, all_roles}
 use Rattle.orm.specs.Sets.{Placed, Part, parts, placed, first_role}
 use Rattle.orm.specs.Population.{cells_of_type, cells_of_pred, cells}

@@ -7,7 +7,7 @@ use mathlib.Core.List.{List, [], ◌∷◌, ◌++◌, map, map-append, flat_map,
 use lib.Dec.{eqb}
 use lib.ListN.{length, get_or, length-append, length-map}
 use Rattle.counting.specs.Lists.{map_from}
-use Rattle.counting.specs.Laws.Maps.{map_congr}
+use Rattle.counting.proofs.Laws.Maps.{map_congr}
 use Rattle.orm.specs.Diagram.{Role, Diagram, index, all_roles}
 use Rattle.orm.specs.Sets.{Placed, Part, parts, select, roles_of_type, first_role}
 use Rattle.orm.specs.Supertypes.{first_value}

@@ -10,7 +10,7 @@ use lib.ListN.{length, get_or, drop, set, length-set}
 use mir.Syntax.{w64}
 use mir.Val.{Fits}
 use Rattle.counting.specs.Lists.{up_from}
-use Rattle.counting.specs.Laws.Range.{length-up_from, up_from_append}
+use Rattle.counting.proofs.Laws.Range.{length-up_from, up_from_append}
 use Rattle.orm.specs.Diagram.{Diagram}
 use Rattle.orm.specs.Form.{type_of}
 use Rattle.orm.specs.Population.{cells_of_type}

@@ -1,6 +1,8 @@
 // The cells of the population that a valid table's diagram has with given sizes of its sets. What is
 // known of a predicate's columns, parts and pairing is prepared once; a row is then computed from its
 // index by remainders.
+#![tactic(auto)]
+
 mod counts;
 mod parts;
 mod preds;

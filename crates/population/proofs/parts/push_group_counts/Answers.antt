@@ -1,0 +1,16 @@
+use Rattle.buffer.specs.Laws.{writing_more, writing-all, writing-long}
+use Rattle.population.proofs.PartLaws.{group-counts-start, group-counts-more, group-counts-none}
+use Rattle.std.proofs.Common.{rules}
+use Rattle.population.proofs.parts.push_group_counts.Goals as goal
+
+pub loop-left-init : goal.loop-left-init
+loop-left-init c = (search rules, search (rules, group-counts-start))
+
+pub loop-left-preserved : goal.loop-left-preserved
+loop-left-preserved c = (search rules, search (rules, writing_more, group-counts-more))
+
+pub shape_of-out : goal.shape_of-out
+shape_of-out c = search (rules, writing-long)
+
+pub returns : goal.returns
+returns c = search (rules, writing-all, group-counts-none)

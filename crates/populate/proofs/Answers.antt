@@ -1,12 +1,8 @@
 -- How populating ends: what the check hands back as an answer, and the cells in the buffer.
 use Prim.Native.Nat.{ℕ, ◌≤◌, ◌<◌}
-use native.Mathlib.Omega.{arith}
 use mathlib.Core.Path.{◌≡◌, refl, ap, ◌∙◌}
-use mathlib.Core.Logic.{⊎_elim}
-use mathlib.Core.List.{List, [], ◌∷◌}
+use mathlib.Core.List.{List}
 use lib.ListN.{length, take}
-use types.Run.{OneOf}
-use denote.Enum.Declared.{tag_of}
 use Rattle.orm.specs.Text.{table_line}
 use Rattle.orm.specs.Sets.{set_count}
 use Rattle.orm.specs.Outcome.{Outcome, accepted, ◌>>=◌, fitted, buffer_after, Sized, written}
@@ -24,7 +20,6 @@ use Rattle.bounds.specs.declared.Start.{Start}
 use Rattle.bounds.specs.declared.Start.TheVariants.{Own}
 use Rattle.bounds.specs.Laws.Ends.{Ends, emptied, settled, ends, sizes-settled}
 use Rattle.bounds.specs.declared.Settlement.{Settlement}
-use Rattle.bounds.specs.contracts.Settlement.{the_type}
 use Rattle.bounds.specs.declared.Settlement.TheVariants.{Refused, TooShort, Accepted}
 use Rattle.buffer.specs.Written.{Wrote}
 use Rattle.buffer.specs.Laws.{wrote-whole}
@@ -74,15 +69,13 @@ module _ (x : Start) (t s : List ℕ) {s' : List ℕ} {roles groups : ℕ} (r : 
 
 module _ (x : Start) (t s b : List ℕ) {s' : List ℕ} {roles groups : ℕ} (r : Settlement) (known : ValidTotals t roles groups)
     (starts : Starts x (set_count (diagram_of t))) (room : length s ≡ most_sets) (h : Answered (checked x t (length s)) r s s') where
-  -- the position among the answers tells that it is none of acceptance
-  stays : Ends x t s s' r → OneOf (0 ∷ 1 ∷ 2 ∷ []) (tag_of the_type r) → Answered (populated x t (length b)) r b b
+  stays : Ends x t s s' r → ((k n : ℕ) → ¬ (r ≡ Accepted k n)) → Answered (populated x t (length b)) r b b
   unfolding settled_into sizes_by written buffer_after
-  stays (emptied set n e q) k = rw (e, q, settled_into) (record { handed = refl; buffer = refl })
-  stays (settled n c y w q) k =
-      ⊎_elim (λ z. absurd (omega arith)) (⊎_elim (λ z. absurd (omega arith)) (λ z. absurd (omega arith))) (rw q at k)
+  stays (emptied set n e q) none = rw (e, q, settled_into) (record { handed = refl; buffer = refl })
+  stays (settled n c y w q) none = absurd (none _ _ q)
 
-  pub refused_on : OneOf (0 ∷ 1 ∷ 2 ∷ []) (tag_of the_type r) → Answered (populated x t (length b)) r b b
-  refused_on k = stays (ends x t s s' known.valid starts room r h) k
+  pub refused_on : ((k n : ℕ) → ¬ (r ≡ Accepted k n)) → Answered (populated x t (length b)) r b b
+  refused_on none = stays (ends x t s s' known.valid starts room r h) none
 
 -- ---- any table
 

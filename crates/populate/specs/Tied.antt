@@ -11,9 +11,9 @@ use Rattle.orm.specs.Text.{text_line, table_line}
 use Rattle.orm.specs.Outcome.{Outcome, refused, accepted, length_of, buffer_after, Sized, written, Handed, handed_back}
 use Rattle.orm.specs.Calls.{diagram_in, read_call, check_call, populate_call}
 use Rattle.guarantee.specs.Settling.{Writes}
-use Rattle.guarantee.specs.Ends.{refused_or_some}
+use Rattle.guarantee.proofs.Ends.{refused_or_some}
 use Rattle.guarantee.specs.Guarantee.{NoPopulation, EmptiedAt, RefusesEmptied, Populated, TableGuarantee, FaultOfForm}
-use Rattle.guarantee.specs.Proof.{guarantee}
+use Rattle.guarantee.proofs.Guarantee.{guarantee}
 use Rattle.grammar.specs.Fault.{number_of}
 use Rattle.reader.specs.Answer.{conversion_of}
 use Rattle.reader.specs.declared.Conversion.{Conversion}

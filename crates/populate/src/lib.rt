@@ -1,5 +1,7 @@
 // Populating: from a table the cells of its population (document 01: the fill). The sizes of its sets
 // are the check's; of the check only its promise is used.
+#![tactic(auto)]
+
 ghost use Rattle.std.specs.Prelude.{◌≡◌, length};
 ghost use Rattle.orm.specs.Sets.{set_count};
 ghost use Rattle.orm.specs.Outcome.{buffer_after, written, handed_back};

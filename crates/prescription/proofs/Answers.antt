@@ -14,7 +14,7 @@ use Rattle.orm.specs.Sets.{set_count}
 use Rattle.orm.specs.Calls.{diagram_in, sizes_by, settled_into}
 use Rattle.orm.specs.Prescribe.{prescribe_call}
 use Rattle.orm.specs.Meaning.{Between}
-use Rattle.orm.specs.Laws.Prescribe.{is_set, no_set}
+use Rattle.orm.proofs.Laws.Prescribe.{is_set, no_set}
 use Rattle.grammar.specs.declared.Fault.{Fault}
 use Rattle.table.specs.Positions.{diagram_of}
 use Rattle.widening.specs.Answer.{acceptance_of, described, widened}

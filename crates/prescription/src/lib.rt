@@ -1,5 +1,7 @@
 // A population in which one set has just so many members: populating, where the rounds start from bounds
 // that keep this set to that size. Sets have numbers, from 1.
+#![tactic(auto)]
+
 ghost use Rattle.std.specs.Prelude.{◌≡◌, length};
 ghost use Rattle.orm.specs.Diagram.{index};
 ghost use Rattle.orm.specs.Outcome.{buffer_after, written, handed_back};
@@ -17,7 +19,7 @@ use widening::Acceptance;
 // How it ends: the table is refused (1 to 6), no set has the number (10), no population has that many there
 // (11, with the set that is emptied in its place), the buffer is too short for the cells (8), or they stand
 // at its front.
-#[derive(Drop)]
+#[derive(Clone, Copy)]
 pub enum Prescription {
     Refused { fault: grammar::Fault, line: usize },
     NoSet { number: u32 },

@@ -3,23 +3,20 @@ use Prim.Native.Nat.{ℕ, suc, ◌-◌, ◌%◌, ◌/◌, ◌≤◌, ◌<◌}
 use native.Mathlib.Omega.{arith}
 use borrow.Author.Tests.{eq-eqb, ne_eqb}
 use mathlib.Core.Path.{◌≡◌, refl, sym, ◌∙◌}
-use mathlib.Core.Logic.{⊎_elim}
 use mathlib.Core.Option.{Option, none, some, some-injective, none-ne-some, some-ne-none}
-use mathlib.Core.List.{List, [], ◌∷◌}
+use mathlib.Core.List.{List}
 use lib.IntN.{pos}
 use lib.Ieee.{binary64, div, of_int}
 use lib.ListN.{length, get_or, drop, take, get_or-append}
-use types.Run.{OneOf}
-use denote.Enum.Declared.{tag_of}
 use Rattle.fixpoint.specs.Limits.{fixpoint}
 use Rattle.orm.specs.Text.{table_line}
 use Rattle.orm.specs.Sets.{set_count, verdict}
 use Rattle.orm.specs.Outcome.{accepted, buffer_after}
 use Rattle.orm.specs.Calls.{diagram_in, sizes_by, sizes_of}
 use Rattle.orm.specs.Average.{PlacedGroup, placed_groups, group_numbered, float_quotient, average_of, average_call}
-use Rattle.orm.specs.Laws.Bounds.{upper-few, upper-sets}
-use Rattle.orm.specs.Laws.Rounds.{own-bounds}
-use Rattle.orm.specs.Laws.Average.{numbered-one, group-among, is-group, no_group}
+use Rattle.orm.proofs.Laws.Bounds.{upper-few, upper-sets}
+use Rattle.orm.proofs.Laws.Rounds.{own-bounds}
+use Rattle.orm.proofs.Laws.Average.{numbered-one, group-among, is-group, no_group}
 use Rattle.grammar.specs.declared.Fault.{Fault}
 use Rattle.table.specs.Positions.{diagram_of}
 use Rattle.widening.specs.Answer.{acceptance_of, described, widened}
@@ -34,7 +31,6 @@ use Rattle.bounds.specs.Laws.Sizes.{sizes-all, sizes-positive}
 use Rattle.bounds.specs.declared.Start.TheVariants.{Own}
 use Rattle.bounds.specs.declared.Settlement.{Settlement}
 use Rattle.bounds.specs.declared.Settlement.TheVariants as settlements
-use Rattle.bounds.specs.contracts.Settlement.{the_type}
 use Rattle.averages.specs.Answer.{Answered, settled_average, average_in}
 use Rattle.averages.specs.Owner.{owner_of, predicate_of}
 use Rattle.averages.specs.declared.AverageAnswer.{AverageAnswer}
@@ -71,19 +67,19 @@ module _ (t before : List ℕ) {after : List ℕ} {roles groups : ℕ} (s : Sett
           rw (es, er, v, sizes_of) (record { is = refl })
       go (settled n c y w e) = let z : ◌≡◌ {A = ℕ} 0 1 = cc in absurd (omega arith)
 
-  -- the position among the answers tells that no set is emptied
+  -- where no set is emptied
   record Sizes : Type 0 where
     sizes : List ℕ
     rounds : ℕ
     ended : verdict (diagram_of t) ≡ fixpoint rounds sizes
     at : (k : ℕ) → k < set_count (diagram_of t) → get_or after k 0 ≡ get_or sizes k 0
 
-  module _ (o : OneOf (0 ∷ 2 ∷ 3 ∷ []) (tag_of the_type s)) where
+  module _ (some : (set round : ℕ) → ¬ (s ≡ settlements.Unsatisfiable set round)) where
     here : Sizes
     here = go ending
       where
         go : Ends Own t before after s → Sizes
-        go (emptied k n v e) = absurd (⊎_elim (λ z. omega arith) (⊎_elim (λ z. omega arith) (λ z. omega arith)) (rw e at o))
+        go (emptied k n v e) = absurd (some _ _ e)
         go (settled n c y w e) = record {
           sizes = c;
           rounds = n;

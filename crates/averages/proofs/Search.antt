@@ -7,7 +7,7 @@ use mathlib.Core.List.{List, ◌++◌, flat_map}
 use lib.ListN.{length, drop}
 use Rattle.orm.specs.Sets.{Placed, placed}
 use Rattle.orm.specs.Average.{PlacedGroup, groups_of_placed, placed_groups, group_numbered}
-use Rattle.orm.specs.Laws.Average.{among-groups, past-groups, below_all}
+use Rattle.orm.proofs.Laws.Average.{among-groups, past-groups, below_all}
 use Rattle.table.specs.Positions.{pred_count, diagram_of}
 use Rattle.table.specs.Cursors.{placed_at, next_cursor, first_cursor, placed_left}
 use Rattle.table.specs.Laws.Cursors.{placed-start, placed-none, placed-more}

@@ -1,5 +1,7 @@
 // The average use of a group: how many rows of its predicate there are on average for each of its
 // combinations, both as settled. A group is asked for by the number of its set, from 1.
+#![tactic(auto)]
+
 mod owner;
 
 ghost use Rattle.std.specs.Prelude.{◌≡◌, ◌≤◌, ◌<◌, length};
@@ -18,7 +20,7 @@ use widening::Acceptance;
 // How it ends: the table is refused (1 to 6), no group has the number (10), a set is emptied (7), or there
 // are so many rows for each combination: a whole number where they divide evenly, else the float nearest to
 // the quotient.
-#[derive(Drop)]
+#[derive(Clone, Copy)]
 pub enum AverageAnswer {
     Refused { fault: grammar::Fault, line: usize },
     NoGroup { number: u32 },

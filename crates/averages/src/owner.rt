@@ -6,7 +6,7 @@ ghost use Rattle.table.specs.Positions.{diagram_of, Walkable};
 ghost use Rattle.averages.specs.Owner.{owner_of, predicate_of};
 
 // The index of the predicate's set, or no group has the number.
-#[derive(Drop)]
+#[derive(Clone, Copy)]
 pub enum Owner {
     Absent,
     Predicate { own: u32 },

@@ -3,6 +3,8 @@
 // Where the lent text has room for every diagram, it is written at once. Elsewhere the length is found
 // out first, so that a call whose text is too short writes nothing. The functions below write from the
 // index `at` on and answer the index behind what they wrote.
+#![tactic(auto)]
+
 ghost use Rattle.std.specs.Prelude.{◌≡◌, map, ◌+◌, ◌*◌, ◌≤◌, length, drop};
 ghost use Rattle.orm.specs.Diagram.{line_of_role, lines_of_pred};
 ghost use Rattle.orm.specs.Text.{render};

@@ -1,13 +1,13 @@
 -- The report on its way: what is written, and what the calls to come have still to write.
 use Prim.Native.Nat.{ℕ, zero, suc, ◌+◌, ◌-◌, ◌≤◌, ◌<◌}
 use native.Mathlib.Omega.{arith}
-use mathlib.Core.Path.{◌≡◌, refl, sym, ap, subst, ◌∙◌}
+use mathlib.Core.Path.{◌≡◌, refl, sym, ap, subst}
 use mathlib.Core.List.{List, [], ◌∷◌, append-nil}
 use lib.ListN.{length}
 use Rattle.orm.specs.LineReader.{no_line, line_at, next_line, position_after}
 use Rattle.orm.specs.Text.{bytes, line_text}
 use Rattle.buffer.specs.Written.{Wrote, Writing, Splits}
-use Rattle.buffer.specs.Laws.{wrote-long, wrote-inside, writing_start, writing_more, writing-all, writing-long}
+use Rattle.buffer.specs.Laws.{wrote-inside, writing_start, writing_more, writing-all}
 use Rattle.lines.specs.Answers.{step_from}
 use Rattle.lines.specs.Laws.Answers.{StandsAt, line-stands, line-none, step_past}
 use Rattle.lines.specs.declared.Step.{Step}
@@ -54,11 +54,6 @@ reporting_start text o = record {
   room = omega arith;
   writing = writing_start o 0 (report text);
 }
-
--- The buffer keeps its length
-pub reporting_long : {text o₀ o o' xs : List ℕ} {to to' offset : ℕ} → Reporting text o₀ o to offset → Wrote o to xs o' to'
-    → length o' ≡ length o₀
-reporting_long r w = wrote-long w ∙ writing-long r.writing
 
 -- A line is told
 pub reporting_line : {text o₀ o o' : List ℕ} {to to' offset p n : ℕ} {st : Step} → Reporting text o₀ o to offset

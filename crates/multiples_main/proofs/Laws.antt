@@ -7,14 +7,14 @@ use mathlib.Core.List.{List, [], ◌∷◌, ◌++◌, map, flat_map}
 use lib.ListN.{length, take, length-map}
 use lib.Seq.{append_snoc}
 use Rattle.counting.specs.Lists.{up_from}
-use Rattle.counting.specs.Laws.Range.{length-up_from}
+use Rattle.counting.proofs.Laws.Range.{length-up_from}
 use Rattle.pairing.specs.Pairing.{gcd_within, gcd, lcm}
 use Rattle.pairing.specs.Multiples.{multiple_rows}
 use Rattle.orm.specs.Text.{separator, decimal_within, decimal, values_text}
 use Rattle.orm.specs.MultiplesText.{multiples_text, line_numbers}
 use Rattle.buffer.specs.Written.{Wrote, Writing, Splits}
 use Rattle.buffer.specs.Laws.{writing-all, wrote-front, wrote-front-inside, wrote-front-counts}
-use Rattle.guarantee.specs.Multiples.Proof.{multiples_hold}
+use Rattle.guarantee.proofs.Multiples.Proof.{multiples_hold}
 use Rattle.multiples_main.specs.Rows.{row_text, rows_text}
 use Rattle.multiples_main.specs.Printed.{Printed}
 

@@ -1,23 +1,38 @@
 // Prints the least common multiples of 1..64 with 1..64, each found by Euclid's algorithm: a line for
 // each row, with commas between. These are the numbers of the constant table in `multiples`.
-ghost use Rattle.std.specs.Prelude.{◌≡◌, ◌≤◌, length, take};
-ghost use Rattle.io.specs.Counts.{IsPrefixLen};
+#![tactic(auto)]
+
+ghost use Rattle.std.specs.Prelude.{◌≡◌, ◌≤◌, length, take, OnOk};
+ghost use Rattle.std.specs.Io.KnownBytes.{Appends};
+ghost use Rattle.orm.specs.MultiplesText.{multiples_text};
 ghost use Rattle.buffer.specs.Written.{Wrote};
 ghost use Rattle.pairing.specs.Pairing.{lcm};
 ghost use Rattle.multiples_main.specs.Rows.{row_text};
 ghost use Rattle.multiples_main.specs.Printed.{Printed};
 
-fn main() {
-    let mut out = io::large_buffer();
+use std::io;
+use std::io::Write;
+
+fn main(rt: HostRuntime) -> io::Result<()> {
+    write(&mut io::writer(&rt))
+}
+
+// Writes the text. What standard output holds no contract can say; this one is of every writer whose
+// bytes are known.
+fn write<W: Write>(writer: &mut W) -> io::Result<()>
+    ensures { OnOk result (Appends (W.contents writer.old) (W.contents writer.new) multiples_text) }
+{
+    let mut out = [0u8; 65536];
     let length = print(&mut out);
-    io::write_all(1, &out[..length]);
+    writer.write_all(&out[..length])
 }
 
 // The text at the front of `out`; it has 16,697 bytes.
 fn print(out: &mut [u8]) -> usize
     requires { 16697 ≤ length out.old }
     ensures printed { Printed (take result out.new) }
-    ensures prefix_len { IsPrefixLen result out.new }
+    ensures inside { result ≤ length out.new }
+    ensures counts { result ≡ length (take result out.new) }
 {
     let mut a: u32 = 1;
     let mut left: u32 = 64;

@@ -1,6 +1,8 @@
 // What the program prints of a population: the rounds, the sizes, and the cells as lines. Each
 // function writes from the index `at` on and answers the index behind what it wrote; a full buffer
 // stays as it is.
+#![tactic(auto)]
+
 ghost use Rattle.std.specs.Prelude.{◌≡◌, ◌+◌, ◌*◌, ◌≤◌, drop};
 ghost use Rattle.buffer.specs.Written.{Wrote};
 ghost use Rattle.table.specs.Positions.{type_count, diagram_of, Walkable};

@@ -4,13 +4,13 @@ use Rattle.std.proofs.Common.{arith, sym, ap, ap₂, ◌∙◌, drop-drop, drop_
 use mathlib.Core.List.{List, [], ◌∷◌, ◌++◌, flat_map, flatten, append_assoc, append-nil}
 use Rattle.counting.specs.Lists.{map_from}
 use Rattle.counting.specs.Terms.{Each, Each2}
-use Rattle.counting.specs.Laws.Members.{each-head, each_tail}
+use Rattle.counting.proofs.Laws.Members.{each-head, each_tail}
 use Rattle.orm.specs.Diagram.{Predicate, Diagram}
 use Rattle.orm.specs.Text.{bytes, line_text}
 use Rattle.orm.specs.Population.{Population, cells_of_type, cells_of_pred, cells}
 use Rattle.orm.specs.Meaning.{Rows, Shaped}
 use Rattle.orm.specs.Program.{pred_text, report}
-use Rattle.orm.specs.Laws.Shape.{flatten-length}
+use Rattle.orm.proofs.Laws.Shape.{flatten-length}
 use Rattle.numerals.specs.Lines.{numbers_from, keyed, keyed_lines}
 use Rattle.report.specs.Printed.{type_lines, types_end, pred_block, pred_lines, size_lines, cell_lines, printed}
 

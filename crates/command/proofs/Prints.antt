@@ -3,12 +3,9 @@ use Prim.Native.Nat.{ℕ, ◌≤◌, ◌<◌}
 use native.Mathlib.Decide.{dec_le}
 use native.Mathlib.Omega.{arith}
 use mathlib.Core.Path.{◌≡◌, refl, sym, ap, ap₂, ◌∙◌, subst}
-use mathlib.Core.Logic.{⊎_elim}
 use mathlib.Core.List.{List, [], ◌∷◌, ◌++◌, append_assoc}
 use lib.ListN.{length, take, drop, length-append}
 use lib.Seq.{take-append_seam, length-take-le}
-use types.Run.{OneOf}
-use denote.Enum.Declared.{tag_of}
 use Rattle.orm.specs.Diagram.{table}
 use Rattle.orm.specs.Form.{type_of}
 use Rattle.orm.specs.Text.{bytes, separator, decimal, values_text, line_text, table_line}
@@ -16,10 +13,10 @@ use Rattle.orm.specs.Populate.{population}
 use Rattle.orm.specs.Outcome.{Outcome, refused, accepted, ◌>>=◌, fitted, length_of, buffer_after, Sized, written, handed_back}
 use Rattle.orm.specs.Calls.{diagram_in, sizes_by, settled_into, read_call}
 use Rattle.orm.specs.Program.{report, output, program}
-use Rattle.orm.specs.Laws.Shape.{population-shaped}
+use Rattle.orm.proofs.Laws.Shape.{population-shaped}
 use Rattle.reading.specs.Laws.{fits, does_not-fit}
 use Rattle.reading.specs.WideTable.{most_numbers}
-use Rattle.reading.specs.TableLength.{table-short}
+use Rattle.reading.proofs.TableLength.{table-short}
 use Rattle.grammar.specs.Fault.{number_of}
 use Rattle.grammar.specs.declared.Fault.{Fault}
 use Rattle.reader.specs.Answer.{conversion_of}
@@ -36,7 +33,6 @@ use Rattle.bounds.specs.Laws.Starts.{starts-own}
 use Rattle.bounds.specs.declared.Start.TheVariants.{Own}
 use Rattle.bounds.specs.declared.Settlement.{Settlement}
 use Rattle.bounds.specs.declared.Settlement.TheVariants.{Refused, Unsatisfiable, TooShort, Accepted}
-use Rattle.bounds.specs.contracts.Settlement.{the_type}
 use Rattle.buffer.specs.Written.{Wrote}
 use Rattle.buffer.specs.Laws.{wrote_then, wrote_as, wrote_none}
 use Rattle.table.specs.Positions.{type_count, diagram_of, Walkable}
@@ -110,19 +106,15 @@ module _ (t w : List ℕ) {w' : List ℕ} {r : Acceptance} {n types preds roles 
 
 -- ---- after the check
 
--- no answer but acceptance has the position 3
-accepted-not : {n rounds : ℕ} {r : Settlement} → r ≡ Accepted n rounds → OneOf (0 ∷ 1 ∷ 2 ∷ []) (tag_of the_type r) → ⊥
-accepted-not q k = ⊎_elim (λ z. absurd (omega arith)) (⊎_elim (λ z. absurd (omega arith)) (λ z. absurd (omega arith))) (rw q at k)
-
 module _ (t s s' : List ℕ) {roles groups : ℕ} (a : Settlement) (known : ValidTotals t roles groups) (long : length s ≡ most_sets)
     (h : Answered (checked Own t (length s)) a s s') where
-  pub check-refused : {o o' : List ℕ} {r : ℕ} → OneOf (0 ∷ 1 ∷ 2 ∷ []) (tag_of the_type a) → Wrote o 0 (settlement_line a) o' r
+  pub check-refused : {o o' : List ℕ} {r : ℕ} → ((n k : ℕ) → a ≡ Accepted n k → ⊥) → Wrote o 0 (settlement_line a) o' r
       → Wrote o 0 (report_of (diagram_of t)) o' r
   check-refused {o} {o'} {r} k v = wrote_as v (go (ends Own t s s' known.valid starts-own long a h))
     where
       go : Ends Own t s s' a → settlement_line a ≡ report_of (diagram_of t)
       go (emptied set n e q) = sym (line-emptied q refl) ∙ sym (emptied-report (diagram_of t) e)
-      go (settled n c x w q) = absurd (accepted-not q k)
+      go (settled n c x w q) = absurd (k _ _ q)
 
 -- ---- after populating
 
@@ -159,13 +151,13 @@ module _ (t c s s' : List ℕ) (rounds : ℕ) (x : Settled Own t c rounds) (a : 
           let e : filled t rounds c (length s) ≡ refused 8 (length made) 0 = ends_so ∙ ap then (does_not-fit (length s) made (omega arith)) in
           short (omega arith) (told-short a (h.handed ∙ ap handed_back e))
 
-  pub fill_refused : {o o' : List ℕ} {r : ℕ} → OneOf (0 ∷ 1 ∷ 2 ∷ []) (tag_of the_type a) → Wrote o 0 (settlement_line a) o' r
+  pub fill_refused : {o o' : List ℕ} {r : ℕ} → ((n k : ℕ) → a ≡ Accepted n k → ⊥) → Wrote o 0 (settlement_line a) o' r
       → Wrote o 0 (report_of (diagram_of t)) o' r
   fill_refused {o} {o'} {r} k v = wrote_as v (go either)
     where
       go : Filled → settlement_line a ≡ report_of (diagram_of t)
       go (short l q) = sym (line-short q) ∙ sym (large-report (diagram_of t) x.ended l)
-      go (whole l w q) = absurd (accepted-not q k)
+      go (whole l w q) = absurd (k _ _ q)
 
   module _ {n k : ℕ} (q : a ≡ Accepted n k) where
     record Front : Type 0 where

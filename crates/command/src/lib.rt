@@ -1,5 +1,7 @@
 // The program's standard output, as a function of its standard input: reading, check and populating,
 // and the report or the refusal.
+#![tactic(auto)]
+
 ghost use Rattle.std.specs.Prelude.{◌≡◌, length};
 ghost use Rattle.orm.specs.Program.{program};
 ghost use Rattle.buffer.specs.Written.{Wrote};

@@ -13,7 +13,7 @@ use Rattle.orm.specs.Outcome.{Outcome, refused, accepted, ◌>>=◌, fitted, len
 use Rattle.orm.specs.Calls.{diagram_in, sizes_by, sizes_of, read_call}
 use Rattle.orm.specs.Program.{report, output, reported, program}
 use Rattle.reading.specs.Laws.{fits, does_not-fit, accepted_or_fault}
-use Rattle.guarantee.specs.Proof.{guarantee}
+use Rattle.guarantee.proofs.Guarantee.{guarantee}
 use Rattle.populate.specs.Demand3.{TextOf}
 use Rattle.command.specs.Reports.{refusal_line, report_on, text_report, table_report}
 

@@ -12,7 +12,7 @@ use borrow.Author.Tests.{eq-eqb, ne_eqb, lt-leb, le-leb, not-true, not-false}
 use Rattle.counting.specs.Lists.{same, combination}
 use Rattle.counting.specs.Totals.{bit}
 use Rattle.counting.specs.Distinct.{all, occurrences}
-use Rattle.counting.specs.Laws.Distinct.{occurrences-cons}
+use Rattle.counting.proofs.Laws.Distinct.{occurrences-cons}
 use Rattle.orm.specs.Form.{in_range, ◌to◌}
 use Rattle.columns.specs.declared.Rows.{Rows}
 use Rattle.columns.specs.Values.{keys_of, keys_in, occurring}

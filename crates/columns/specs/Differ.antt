@@ -1,17 +1,17 @@
 -- Rows, or the values of a column, differ just where each key occurs once.
 use Rattle.std.specs.Prelude.{ℕ, zero, suc, ◌<◌, ◌≡◌, refl, Bool, List, [], ◌∷◌, map, eqb, length, get_or, drop}
 use Rattle.std.proofs.Common.{ap₂, ◌∙◌, get_or-take}
-use Rattle.std.proofs.Math.Logic.{Iff·trans, Iff·symm}
+use Rattle.std.proofs.Math.Logic.Iff
 use Rattle.counting.specs.Lists.{same, combination}
 use Rattle.counting.specs.Distinct.{occurrences, all_differ}
 use Rattle.counting.specs.Terms.{Decides, ◌∈◌, Each, InjectiveOn}
-use Rattle.counting.specs.Laws.Members.{map_agree, no_repeats_map}
-use Rattle.counting.specs.Laws.Products.{rows_agree}
-use Rattle.counting.specs.Laws.Distinct.{bool_ext, all_decides, all_differ_decides}
-use Rattle.counting.specs.Laws.Instances.{eqb_decides, same_decides}
+use Rattle.counting.proofs.Laws.Members.{map_agree, no_repeats_map}
+use Rattle.counting.proofs.Laws.Products.{rows_agree}
+use Rattle.counting.proofs.Laws.Distinct.{bool_ext, all_decides, all_differ_decides}
+use Rattle.counting.proofs.Laws.Instances.{eqb_decides, same_decides}
 use Rattle.columns.specs.Single.{occurs, occurs-once, once-apart, no_repeats_of}
 use Rattle.orm.specs.Population.{rows_of}
-use Rattle.orm.specs.Laws.Decided.{in_range_decides}
+use Rattle.orm.proofs.Laws.Decided.{in_range_decides}
 use Rattle.columns.specs.declared.Column.{Column}
 use Rattle.columns.specs.declared.Rows.{Rows}
 use Rattle.columns.specs.Values.{spaced, values_in, keys_of, keys_in, occurring}
@@ -29,12 +29,12 @@ once-differ : {A : Type 0} {eq : A → A → Bool} → Decides eq → (f : A →
 unfolding occurring
 once-differ decides f xs inj =
     bool_ext _ _
-    (Iff·trans (all_decides _ (λ v. in_range_decides 1 (occurrences same v (map f xs)) 1) (map f xs))
-    (Iff·trans (
+    (Iff.trans (all_decides _ (λ v. in_range_decides 1 (occurrences same v (map f xs)) 1) (map f xs))
+    (Iff.trans (
       λ h. no_repeats_of f xs (once-apart same_decides (map f xs) (λ a m. (h a m).1)),
       λ n a m. (occurs same_decides m, occurs-once same_decides (no_repeats_map f xs inj n) m),
     )
-    (Iff·symm (all_differ_decides decides xs))))
+    (Iff.symm (all_differ_decides decides xs))))
 
 -- ---- whole rows
 

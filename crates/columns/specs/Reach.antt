@@ -3,7 +3,7 @@ use Rattle.std.specs.Prelude.{ℕ, zero, suc, ◌+◌, ◌*◌, ◌-◌, ◌≤�
 use Rattle.std.proofs.Common.{suc-mul, mul-le-mul_right, arith, ap, ◌∙◌, length-take, length-drop, take-append-drop}
 use mathlib.Core.List.Memᴰ
 use Rattle.counting.specs.Terms.{Each}
-use Rattle.counting.specs.Laws.Members.{each-head, each_tail, each-cons, each_nil, get_or_in}
+use Rattle.counting.proofs.Laws.Members.{each-head, each_tail, each-cons, each_nil, get_or_in}
 use Rattle.orm.specs.Population.{rows_of}
 use Rattle.columns.specs.declared.Column.{Column}
 use Rattle.columns.specs.declared.Rows.{Rows}

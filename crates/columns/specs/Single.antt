@@ -8,9 +8,9 @@ use Rattle.std.proofs.Common.{arith}
 use Rattle.counting.specs.Totals.{bit}
 use Rattle.counting.specs.Distinct.{occurrences}
 use Rattle.counting.specs.Terms.{Decides, ◌∈◌, Each, NoRepeats}
-use Rattle.counting.specs.Laws.Members.{apart}
-use Rattle.counting.specs.Laws.Distinct.{occurrences-cons, occurrences-absent, eq_apart, length-distinct_le, length-distinct-iff}
-use Rattle.counting.specs.Laws.Multiplicity.{occurrences_le}
+use Rattle.counting.proofs.Laws.Members.{apart}
+use Rattle.counting.proofs.Laws.Distinct.{occurrences-cons, occurrences-absent, eq_apart, length-distinct_le, length-distinct-iff}
+use Rattle.counting.proofs.Laws.Multiplicity.{occurrences_le}
 
 module _ {A : Type 0} {eq : A → A → Bool} (decides : Decides eq) where
   pub occurs : {a : A} {xs : List A} → a ∈ xs → 1 ≤ occurrences eq a xs

@@ -1,4 +1,6 @@
 // Tests of the columns and rows that stand in a slice of cells: ranges, occurrences, different values.
+#![tactic(auto)]
+
 ghost use Rattle.std.specs.Prelude.{◌≡◌, ◌+◌, ◌≤◌, ◌<◌, min, eqb, length, get_or, take, drop};
 ghost use Rattle.counting.specs.Lists.{same, combination};
 ghost use Rattle.counting.specs.Distinct.{occurrences, all_differ};
@@ -7,7 +9,7 @@ ghost use Rattle.columns.specs.Values.{values_in, keys_in, occurring};
 ghost use Rattle.columns.specs.Reach.{Keyed, Held, Reached};
 
 // `count` cells, the first at `start` and each `step` after the one before.
-#[derive(Drop)]
+#[derive(Clone, Copy)]
 pub struct Column {
     pub start: usize,
     pub step: usize,
@@ -15,7 +17,7 @@ pub struct Column {
 }
 
 // `count` rows of `width` cells, the first at `start`.
-#[derive(Drop)]
+#[derive(Clone, Copy)]
 pub struct Rows {
     pub start: usize,
     pub width: usize,

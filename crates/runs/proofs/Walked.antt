@@ -11,16 +11,17 @@ use lib.Seq.{drop-cons, drop-drop, length-take-le, take_at}
 use borrow.Author.Tests.{not-true, not-false}
 use Rattle.counting.specs.Lists.{same, combination, up_from}
 use Rattle.counting.specs.Distinct.{occurrences}
-use Rattle.counting.specs.Laws.Distinct.{all_decides}
-use Rattle.counting.specs.Laws.Instances.{same_decides}
-use Rattle.counting.specs.Laws.Range.{in_below-iff}
-use Rattle.sorting.specs.Sorted.{each-sorted}
-use Rattle.sorting.specs.Lexical.{before_strict, before-front}
-use Rattle.sorting.specs.Runs.{runs_from, runs, each_occurs, runs-sorted}
+use Rattle.counting.proofs.Laws.Distinct.{all_decides}
+use Rattle.counting.proofs.Laws.Instances.{same_decides}
+use Rattle.counting.proofs.Laws.Range.{in_below-iff}
+use Rattle.sorting.proofs.Sorted.{each-sorted}
+use Rattle.sorting.proofs.Lexical.{before_strict, before-front}
+use Rattle.sorting.specs.Runs.{runs_from, runs, each_occurs}
+use Rattle.sorting.proofs.Runs.{runs-sorted}
 use Rattle.orm.specs.Form.{◌to◌, in_range}
 use Rattle.orm.specs.Population.{rows_of}
-use Rattle.orm.specs.Laws.Decided.{in_range_decides}
-use Rattle.orm.specs.Laws.Cells.{rows_of-length}
+use Rattle.orm.proofs.Laws.Decided.{in_range_decides}
+use Rattle.orm.proofs.Laws.Cells.{rows_of-length}
 use Rattle.columns.specs.declared.Rows.{Rows}
 use Rattle.columns.specs.Values.{keys_of, keys_in, occurring}
 use Rattle.columns.specs.Single.{occurs}

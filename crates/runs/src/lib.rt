@@ -1,4 +1,6 @@
 // How often what rows hold in some columns occurs: of rows in order, the runs of equal ones tell.
+#![tactic(auto)]
+
 ghost use Rattle.std.specs.Prelude.{◌≡◌, ◌≤◌, ◌<◌, length, take};
 ghost use Rattle.columns.specs.Values.{keys_in, occurring};
 ghost use Rattle.columns.specs.Reach.{Keyed};
@@ -99,7 +101,7 @@ pub fn occurring(
 }
 
 // What one order of the rows tells: that they differ, and how often what they hold in the first few columns occurs.
-#[derive(Drop)]
+#[derive(Clone, Copy)]
 pub struct Outcome {
     pub differ: bool,
     pub kept: bool,

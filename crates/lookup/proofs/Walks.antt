@@ -14,11 +14,13 @@ use borrow.Author.Fill.{fill_more}
 use Rattle.counting.specs.Totals.{bit}
 use Rattle.counting.specs.Terms.{◌∈◌}
 use Rattle.counting.specs.Distinct.{member, distinct, within, all}
-use Rattle.counting.specs.Laws.Members.{get_or_in}
-use Rattle.counting.specs.Laws.Distinct.{length-distinct-cons, member_decides}
-use Rattle.counting.specs.Laws.Instances.{eqb_decides}
-use Rattle.sorting.specs.Rising.{rising-apart, Rising}
-use Rattle.sorting.specs.Search.{place_of, place_in, place-holds, place_lt}
+use Rattle.counting.proofs.Laws.Members.{get_or_in}
+use Rattle.counting.proofs.Laws.Distinct.{length-distinct-cons, member_decides}
+use Rattle.counting.proofs.Laws.Instances.{eqb_decides}
+use Rattle.sorting.specs.Rising.{Rising}
+use Rattle.sorting.proofs.Rising.{rising-apart}
+use Rattle.sorting.specs.Search.{place_of}
+use Rattle.sorting.proofs.Search.{place_in, place-holds, place_lt}
 use Rattle.columns.specs.declared.Column.{Column}
 use Rattle.columns.specs.Values.{spaced, values_in}
 use Rattle.columns.specs.Walks.{value-here, spaced-more, spaced-none, next_here}

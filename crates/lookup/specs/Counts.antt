@@ -5,11 +5,12 @@ use Rattle.std.proofs.lemmas.Bool.{false≢true}
 use Rattle.std.proofs.lemmas.List.{length-replicate, get_or-replicate}
 use Rattle.counting.specs.Terms.{◌∈◌, ◌⊆◌, NoRepeats}
 use Rattle.counting.specs.Distinct.{member, distinct, within}
-use Rattle.counting.specs.Laws.Members.{⊆_trans, cons_⊆, no_repeats_le}
-use Rattle.counting.specs.Laws.Distinct.{bool_ext, member_decides, within_decides, distinct_⊆, distinct_no_repeats}
-use Rattle.counting.specs.Laws.Instances.{eqb_decides}
-use Rattle.counting.specs.Laws.Sizes.{no_repeats_eq_distinct}
-use Rattle.sorting.specs.Rising.{Rising, rising_no_repeats}
+use Rattle.counting.proofs.Laws.Members.{⊆_trans, cons_⊆, no_repeats_le}
+use Rattle.counting.proofs.Laws.Distinct.{bool_ext, member_decides, within_decides, distinct_⊆, distinct_no_repeats}
+use Rattle.counting.proofs.Laws.Instances.{eqb_decides}
+use Rattle.counting.proofs.Laws.Sizes.{no_repeats_eq_distinct}
+use Rattle.sorting.specs.Rising.{Rising}
+use Rattle.sorting.proofs.Rising.{rising_no_repeats}
 use Rattle.lookup.specs.declared.Met.{Met}
 use Rattle.lookup.specs.Stamps.{stamped_if, among, all_met, Marked, met-then, among-all}
 

@@ -4,7 +4,7 @@ use Rattle.std.proofs.Common.{arith, sym, ap, ap₂, ◌∙◌, ne_eqb}
 use Rattle.std.proofs.Math.Bool.{or-true, or-false, and-eq-true_iff}
 use Rattle.std.proofs.lemmas.Bool.{false≢true}
 use Rattle.counting.specs.Distinct.{all, member, within}
-use Rattle.counting.specs.Laws.Distinct.{member_append}
+use Rattle.counting.proofs.Laws.Distinct.{member_append}
 use Rattle.sorting.specs.Rising.{Rising}
 
 -- The member was met, if its mark is no 0

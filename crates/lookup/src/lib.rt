@@ -2,6 +2,8 @@
 //
 // A member that is met gets a stamp, so that of many columns, each with a higher stamp, it is known which members were met at all
 // and how many in the last one.
+#![tactic(auto)]
+
 ghost use Rattle.std.specs.Prelude.{◌≡◌, ◌+◌, ◌≤◌, ◌<◌, eqb, length, replicate};
 ghost use Rattle.counting.specs.Distinct.{all, within};
 ghost use Rattle.sorting.specs.Rising.{Rising};
@@ -13,7 +15,7 @@ ghost use Rattle.lookup.specs.Counts.{Fresh, Next, Looked};
 use columns::Column;
 
 // Whether all values are members, and how many members are met.
-#[derive(Drop)]
+#[derive(Clone, Copy)]
 pub struct Met {
     pub all: bool,
     pub count: usize,

@@ -8,7 +8,7 @@ use Rattle.std.proofs.Math.Seq.{take-nil}
 use Rattle.orm.specs.Diagram.{Diagram}
 use Rattle.orm.specs.Reader.{Reading, rejected, read, Reader, ◌>>=◌, pure, for_each, at_end, broken, cut, exactly}
 use Rattle.orm.specs.Population.{Block, block, rows_of, type_block, pred_block, blocks, cutting}
-use Rattle.orm.specs.Laws.Readers.{bind_read, bind_rejected, exactly_append}
+use Rattle.orm.proofs.Laws.Readers.{bind_read, bind_rejected, exactly_append}
 use Rattle.orm.specs.Outcome.{outcome_of}
 use Rattle.orm.specs.Calls.{population_in}
 use Rattle.blocks.specs.declared.Extent.TheVariants.{Whole, Broken}

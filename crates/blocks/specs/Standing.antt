@@ -2,10 +2,10 @@
 use Rattle.std.specs.Prelude.{ℕ, ◌+◌, ◌*◌, ◌-◌, ◌≤◌, ◌<◌, ◌≡◌, refl, List, length, get_or, drop}
 use Rattle.std.proofs.Common.{arith, ◌∙◌, length-drop}
 use Rattle.counting.specs.Terms.{Each, Each2}
-use Rattle.counting.specs.Laws.Members.{each-head, each_tail}
+use Rattle.counting.proofs.Laws.Members.{each-head, each_tail}
 use Rattle.orm.specs.Diagram.{Predicate}
 use Rattle.orm.specs.Meaning.{Rows}
-use Rattle.orm.specs.Laws.Cells.{population_in-iff}
+use Rattle.orm.proofs.Laws.Cells.{population_in-iff}
 use Rattle.table.specs.Positions.{pred_of, pred_length, preds_in, type_count, pred_count, first_pred_at, diagram_of}
 use Rattle.table.specs.Laws.Walks.{preds_more}
 use Rattle.table.specs.Laws.Valid.{valid-walkable}

@@ -9,7 +9,8 @@ use mathlib.Core.List.{List, [], ◌∷◌, ◌++◌, map}
 use Rattle.std.proofs.Math.ListN.{length, drop, length-map, length-set}
 use Rattle.std.proofs.lemmas.List.Edits.{sets, sets-eq}
 use Rattle.std.proofs.Math.Seq.{length-sets, take-suc, take-append-le, take-append-add}
-use Rattle.counting.specs.Laws.Index.{At, at-get_or, at-below, below_at, at_map, at_append_left}
+use Rattle.counting.proofs.Laws.Index.{at-get_or, at-below, below_at, at_map, at_append_left}
+use Rattle.counting.specs.Index.{At}
 use Rattle.orm.specs.Diagram.{ObjectType, Predicate}
 use Rattle.orm.specs.Form.{type_of}
 use Rattle.orm.specs.Outcome.{accepted}

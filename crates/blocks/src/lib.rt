@@ -1,4 +1,6 @@
 // Where the blocks of types and predicates stand in cells, and whether cells are cut whole.
+#![tactic(auto)]
+
 ghost use Rattle.std.specs.Prelude.{◌≡◌, ◌+◌, ◌*◌, ◌≤◌, ◌<◌, length, get_or, drop, replicate};
 ghost use Rattle.std.proofs.lemmas.List.Edits.{sets};
 ghost use Rattle.counting.specs.Lists.{column};
@@ -13,7 +15,7 @@ ghost use Rattle.blocks.specs.Starts.{Walk};
 use columns::{Column, Rows};
 
 // Whether cells are a population's, or where they end early or run on.
-#[derive(Drop)]
+#[derive(Clone, Copy)]
 pub enum Extent {
     Whole,
     Broken { at: usize },

@@ -1,11 +1,13 @@
 // What one pass over types and one over predicates find of a population: faults, each a constraint with a number that breaks it. For
 // each constraint the lowest number is kept, and the first constraint with one is the answer. What the passes find stands in
 // specs/Passes, the law that this is document 01's answer in specs/Laws/Answered.
+#![tactic(auto)]
+
 ghost use Rattle.std.specs.Prelude.{◌≡◌, ◌&&◌, ◌<◌, length};
 ghost use Rattle.faults.specs.Faults.{unless, lowered, no_entries, first_entry, answer_of};
 
 // The lowest broken constraint with the lowest number that breaks it.
-#[derive(Drop)]
+#[derive(Clone, Copy)]
 pub enum Verdict {
     Valid,
     Breaks { constraint: u32, number: u32 },

@@ -6,7 +6,7 @@ use Rattle.std.proofs.Math.Dec.{eqb-suc-zero}
 use Rattle.std.proofs.lemmas.List.{get_or-replicate}
 use Rattle.counting.specs.Lists.{map_from}
 use Rattle.counting.specs.Terms.{Each, EachFrom}
-use Rattle.counting.specs.Laws.Members.{each_nil, each-head, each_append}
+use Rattle.counting.proofs.Laws.Members.{each_nil, each-head, each_append}
 use Rattle.orm.specs.Diagram.{ObjectType, Predicate, Diagram}
 use Rattle.orm.specs.Population.{Population}
 use Rattle.orm.specs.WellFormed.{WellFormed}

@@ -14,9 +14,10 @@ use Rattle.std.proofs.Math.Nat.{add-zero}
 use Rattle.std.proofs.Math.Dec.{eqb}
 use borrow.Author.Tests.{ne_eqb, eqb-true, eq-eqb}
 use Rattle.counting.specs.Terms.{◌∈◌, ◌⊆◌, Each, EachFrom}
-use Rattle.counting.specs.Laws.Index.{At, first, later, at_in, at-get_or, at-below, below_at, each-from-at, of-map_from}
-use Rattle.counting.specs.Laws.Members.{each_nil, each-cons, each_append, in_flatten}
-use Rattle.counting.specs.Laws.Distinct.{all-fails}
+use Rattle.counting.proofs.Laws.Index.{at_in, at-get_or, at-below, below_at, each-from-at, of-map_from}
+use Rattle.counting.specs.Index.{At, first, later}
+use Rattle.counting.proofs.Laws.Members.{each_nil, each-cons, each_append, in_flatten}
+use Rattle.counting.proofs.Laws.Distinct.{all-fails}
 use Rattle.counting.specs.Distinct.{all, within}
 use Rattle.orm.specs.Diagram.{ObjectType, Predicate, Diagram, is_root, index}
 use Rattle.orm.specs.Population.{Population}
@@ -62,7 +63,7 @@ in_unless : (b : Bool) {k n : ℕ} → b ≡ false → record { constraint = k; 
 unfolding unless
 in_unless b e = rw e (here refl)
 
-in_found : {X A : Type 0} (of : ℕ → X → A → List Fault) (m : ℕ) {i : ℕ} {xs : List X} {os : List A} {x : X} {a : A} → At x xs i → At a os i
+in_found : {X A : Type 0} {x : X} {a : A} (of : ℕ → X → A → List Fault) (m : ℕ) {i : ℕ} {xs : List X} {os : List A} → At x xs i → At a os i
     → of (m + i) x a ⊆ faults_of of m xs os
 unfolding faults_of
 in_found of m (first p) (first q) f k = left _ (rw (add-zero, p, q) at k)

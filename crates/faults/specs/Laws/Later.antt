@@ -2,7 +2,7 @@
 use Rattle.std.specs.Prelude.{ℕ, zero, suc, ◌≤◌, ◌<◌, ◌≡◌, refl, true, false, List, [], ◌∷◌, eqb, get_or}
 use Rattle.std.proofs.Common.{arith, ap, ◌∙◌}
 use Rattle.std.proofs.Math.Dec.{eqb-suc-zero}
-use Rattle.counting.specs.Laws.Members.{each-head, each_tail}
+use Rattle.counting.proofs.Laws.Members.{each-head, each_tail}
 use Rattle.orm.specs.Diagram.{Diagram}
 use Rattle.orm.specs.Population.{Population}
 use Rattle.orm.specs.Constraints.{Answer, breaks}

@@ -4,7 +4,7 @@ use Rattle.std.proofs.Common.{arith, sym, ◌∙◌, length-set, get_or-set_same
 use mathlib.Core.List.{List, [], ◌∷◌, ◌++◌}
 use Rattle.std.proofs.lemmas.Bool.{eqb-false}
 use Rattle.counting.specs.Terms.{Each}
-use Rattle.counting.specs.Laws.Members.{each_nil, each-cons, each-head, each_tail}
+use Rattle.counting.proofs.Laws.Members.{each_nil, each-cons, each-head, each_tail}
 use Rattle.faults.specs.Faults.{Fault, is_lower, noted, lowered}
 
 pub lowered-then : (fs gs : List Fault) (e : List ℕ) → lowered (fs ++ gs) e ≡ lowered gs (lowered fs e)

@@ -1,4 +1,6 @@
 // What the roles that a type plays tell: K7, K8 and K11 of each, and which members stand in one. Each column is looked up once.
+#![tactic(auto)]
+
 ghost use Rattle.std.specs.Prelude.{◌≡◌, [], ◌∷◌, ◌+◌, ◌*◌, ◌≤◌, length, drop};
 ghost use Rattle.orm.specs.Constraints.{played};
 ghost use Rattle.faults.specs.Faults.{lowered};
@@ -35,7 +37,7 @@ fn note_role(t: &[u32], role: usize, met: Met, size: usize, own: u32, lowest: &m
 }
 
 // The role at `role` of the table, the number of its predicate, and the stamp for the members in it.
-#[derive(Drop)]
+#[derive(Clone, Copy)]
 struct Turn {
     role: usize,
     own: u32,

@@ -12,12 +12,13 @@ use Rattle.orm.specs.Diagram.{ObjectType, Diagram, must_play}
 use Rattle.orm.specs.Form.{type_of, ◌to◌, in_range}
 use Rattle.orm.specs.Population.{Population}
 use Rattle.orm.specs.Constraints.{values_in_roles, all_played, K1, K2, K3, K10}
-use Rattle.orm.specs.Laws.Decided.{in_range_decides}
+use Rattle.orm.proofs.Laws.Decided.{in_range_decides}
 use Rattle.faults.specs.Faults.{unless, given, lowered, faults_of}
 use Rattle.faults.specs.Passes.{subtype_faults, member_faults, type_faults}
 use Rattle.faults.specs.Laws.Lowest.{lowered-then}
 use Rattle.sorting.specs.Order.{sorted}
-use Rattle.sorting.specs.Rising.{rising, Rising, rising-sorted}
+use Rattle.sorting.specs.Rising.{rising, Rising}
+use Rattle.sorting.proofs.Rising.{rising-sorted}
 use Rattle.table.specs.Positions.{diagram_of}
 use Rattle.columns.specs.declared.Column.{Column}
 use Rattle.columns.specs.Values.{values_in, length-spaced}

@@ -10,22 +10,23 @@ use lib.ListN.{length, get_or, drop}
 use borrow.Author.Tests.{leb-true, le-leb, ltb-true, ltb-false, not-true, not-false}
 use Rattle.counting.specs.Terms.{Each}
 use Rattle.counting.specs.Distinct.{all, member, within}
-use Rattle.counting.specs.Laws.Members.{get_or_in}
-use Rattle.counting.specs.Laws.Index.{in_at, at-get_or, at-below}
-use Rattle.counting.specs.Laws.Distinct.{bool_ext, all_decides}
+use Rattle.counting.proofs.Laws.Members.{get_or_in}
+use Rattle.counting.proofs.Laws.Index.{in_at, at-get_or, at-below}
+use Rattle.counting.proofs.Laws.Distinct.{bool_ext, all_decides}
 use Rattle.orm.specs.Diagram.{ObjectType, Diagram, is_mandatory, must_play}
 use Rattle.orm.specs.Supertypes.{has_range}
 use Rattle.orm.specs.Form.{type_of, ◌to◌, in_range}
 use Rattle.orm.specs.Population.{Population}
 use Rattle.orm.specs.Meaning.{Between}
 use Rattle.orm.specs.Constraints.{played, values_in_roles, all_played, K3, K10}
-use Rattle.orm.specs.Laws.Decided.{in_range_decides}
+use Rattle.orm.proofs.Laws.Decided.{in_range_decides}
 use Rattle.faults.specs.Faults.{unless, given, faults_of}
 use Rattle.faults.specs.Passes.{belongs, fills, limited, subtype_faults, role_faults, roles_faults, member_faults}
 use Rattle.sorting.specs.Order.{sorted}
-use Rattle.sorting.specs.Sorted.{sorted-same, member-sorted}
-use Rattle.sorting.specs.Runs.{and_turn}
-use Rattle.sorting.specs.Rising.{Rising, rising-at}
+use Rattle.sorting.proofs.Sorted.{sorted-same, member-sorted}
+use Rattle.sorting.proofs.Runs.{and_turn}
+use Rattle.sorting.specs.Rising.{Rising}
+use Rattle.sorting.proofs.Rising.{rising-at}
 
 module _ (ms : List ℕ) where
   within-order : (vs : List ℕ) → within eqb vs (sorted ltb ms) ≡ within eqb vs ms

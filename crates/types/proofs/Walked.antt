@@ -6,8 +6,9 @@ use mathlib.Core.Path.{◌≡◌, refl, sym, ap, ◌∙◌}
 use mathlib.Core.List.{List, [], ◌∷◌}
 use lib.ListN.{length, get_or, drop, drop_of_length-le}
 use lib.Seq.{drop-drop, drop-cons}
-use Rattle.counting.specs.Laws.Index.{At, at-get_or, each-from-at}
-use Rattle.counting.specs.Laws.Lines.{each_at, each-length}
+use Rattle.counting.proofs.Laws.Index.{at-get_or, each-from-at}
+use Rattle.counting.specs.Index.{At}
+use Rattle.counting.proofs.Laws.Lines.{each_at, each-length}
 use Rattle.orm.specs.Diagram.{ObjectType}
 use Rattle.orm.specs.Form.{type_of}
 use Rattle.orm.specs.WellFormed.{TypeForm}

@@ -1,5 +1,7 @@
 // The pass over types: K1 to K4 and K10 of each, and K7, K8 and K11 of the roles that it plays. A type's members are sorted once; `list` and
 // `spare` are scratch.
+#![tactic(auto)]
+
 ghost use Rattle.std.specs.Prelude.{◌≡◌, not, ◌||◌, ◌+◌, ◌*◌, ◌≤◌, ◌<◌, length, get_or, drop};
 ghost use Rattle.counting.specs.Distinct.{all};
 ghost use Rattle.orm.specs.Diagram.{must_play};
@@ -20,7 +22,7 @@ use columns::Column;
 use selection::players::{must_play, plays};
 
 // The type at `line` of the table, with its block at `at` of the cells and this number.
-#[derive(Drop)]
+#[derive(Clone, Copy)]
 struct Place {
     line: usize,
     at: usize,

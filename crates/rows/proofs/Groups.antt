@@ -12,15 +12,15 @@ use borrow.Author.Tests.{not-true, not-false}
 use Rattle.counting.specs.Lists.{map_from, up_from}
 use Rattle.counting.specs.Terms.{Each}
 use Rattle.counting.specs.Distinct.{all}
-use Rattle.counting.specs.Laws.Members.{each_append, no_repeats_le}
-use Rattle.counting.specs.Laws.Index.{at-below}
-use Rattle.counting.specs.Laws.Range.{length-up_from, in_below-iff}
+use Rattle.counting.proofs.Laws.Members.{each_append, no_repeats_le}
+use Rattle.counting.proofs.Laws.Index.{at-below}
+use Rattle.counting.proofs.Laws.Range.{length-up_from, in_below-iff}
 use Rattle.orm.specs.Diagram.{Role, Frequency, Predicate}
 use Rattle.orm.specs.Form.{group_of, ◌to◌, in_range}
 use Rattle.orm.specs.Sets.{roles_in_group}
 use Rattle.orm.specs.Constraints.{grouped, K5, K6, K9}
-use Rattle.orm.specs.Laws.Cells.{rows_of-length}
-use Rattle.orm.specs.Laws.Select.{of-select, select_no_repeats}
+use Rattle.orm.proofs.Laws.Cells.{rows_of-length}
+use Rattle.orm.proofs.Laws.Select.{of-select, select_no_repeats}
 use Rattle.buffer.specs.Written.{Wrote}
 use Rattle.buffer.specs.Laws.{wrote_then, wrote-end, wrote-front}
 use Rattle.table.specs.Positions.{roles_start, groups_start, roles_in, groups_in}

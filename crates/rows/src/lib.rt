@@ -1,5 +1,7 @@
 // The pass over predicates: K5, K6 and K9 of each. Its rows are put in order once, by the columns of its first group and then by all:
 // this order shows which rows are equal, and how often what they hold in the group occurs.
+#![tactic(auto)]
+
 ghost use Rattle.std.specs.Prelude.{◌≡◌, ◌+◌, ◌≤◌, length, take, drop};
 ghost use Rattle.orm.specs.Form.{group_of};
 ghost use Rattle.orm.specs.Constraints.{K5, K6, K9};
@@ -18,7 +20,7 @@ use columns::Rows;
 use runs::Outcome;
 
 // How many columns a group has, and with all columns behind them; its limits.
-#[derive(Drop)]
+#[derive(Clone, Copy)]
 struct Group {
     own: usize,
     all: usize,
@@ -131,7 +133,7 @@ fn groups_keep(
 }
 
 // Whether K5, K6 and K9 are kept.
-#[derive(Drop)]
+#[derive(Clone, Copy)]
 struct Kept {
     differ: bool,
     sized: bool,

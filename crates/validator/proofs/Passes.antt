@@ -8,7 +8,7 @@ use lib.Dec.{leb}
 use borrow.Author.Tests.{leb-true}
 use lib.ListN.{length, replicate, length-replicate}
 use Rattle.orm.specs.Constraints.{answer}
-use Rattle.orm.specs.Laws.Cells.{population_in-iff}
+use Rattle.orm.proofs.Laws.Cells.{population_in-iff}
 use Rattle.faults.specs.declared.Verdict.{Verdict}
 use Rattle.faults.specs.declared.Verdict.TheVariants as verdicts
 use Rattle.faults.specs.Faults.{lowered, faults_of, no_entries, first_entry, answer_of}

@@ -1,5 +1,7 @@
 // Validating (document 01: judging): whether cells are a population that meets the constraints of a table's diagram.
 // It takes any table and any cells, writes nothing and runs no rounds.
+#![tactic(auto)]
+
 ghost use Rattle.std.specs.Prelude.{◌≡◌, length};
 ghost use Rattle.orm.specs.Constraints.{answer};
 ghost use Rattle.orm.specs.Calls.{validate_call};
@@ -19,7 +21,7 @@ use widening::Acceptance;
 
 // Valid, the lowest broken constraint with the lowest type or predicate that breaks it, or a refusal: 1 to 6 of the table
 // with the line, then 9 with the index of the cell at which the cells end early or run on.
-#[derive(Drop)]
+#[derive(Clone, Copy)]
 pub enum ValidateAnswer {
     Valid,
     Breaks { constraint: u32, number: u32 },

@@ -3,11 +3,12 @@
 use Rattle.std.specs.Prelude.{ℕ, ◌+◌, ◌≤◌, ◌<◌, ◌≡◌, List, [], ◌∷◌, length, get_or, drop}
 use Rattle.std.proofs.Common.{arith, ap, ◌∙◌}
 use Rattle.std.proofs.Math.ListN.{get_or-append}
-use Rattle.counting.specs.Laws.Index.{At, at-below}
+use Rattle.counting.proofs.Laws.Index.{at-below}
+use Rattle.counting.specs.Index.{At}
 use Rattle.orm.specs.Diagram.{ObjectType, Role, all_roles}
 use Rattle.orm.specs.Sets.{first_pred, first_role, upper}
 use Rattle.orm.specs.Populate.{size}
-use Rattle.orm.specs.Laws.Bounds.{length-upper}
+use Rattle.orm.proofs.Laws.Bounds.{length-upper}
 use Rattle.grammar.specs.Fault.{number_of}
 use Rattle.grammar.specs.declared.Fault.{Fault}
 use Rattle.grammar.specs.declared.Fault.TheVariants.{Malformed, OutOfRange, Unknown, Disordered, Unnamed, Miscounted}

@@ -1,7 +1,7 @@
 -- S-8, 'Limits on a role' (document 02), on running code, as one statement over the calls for C, with its one proof in `RoleLimits/Proof`. `Told`,
 -- `ToldRead`, `HasValidated`, `Converted` and `Settled` are what the contracts of the calls ensure.
 use Rattle.std.specs.Prelude.{ℕ, ◌+◌, ◌≤◌, ◌<◌, ◌≡◌, ◌↔◌, List, [], ◌∷◌, ◌++◌, length, get_or, take}
-use Rattle.counting.specs.Laws.Index.{At}
+use Rattle.counting.specs.Index.{At}
 use Rattle.orm.specs.Diagram.{ObjectType, Role, Predicate, Line, diagram_line, line_of_count, all_roles}
 use Rattle.orm.specs.Form.{PredHead}
 use Rattle.orm.specs.Text.{bytes, text_line, table_line}

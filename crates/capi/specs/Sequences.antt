@@ -5,7 +5,7 @@ use Rattle.std.specs.Prelude.{ℕ, ◌+◌, ◌≤◌, ◌<◌, ◌≡◌, ◌�
 use Rattle.counting.specs.Totals.{sum_over}
 use Rattle.fixpoint.specs.Limits.{Limit, value_of}
 use Rattle.fixpoint.specs.Notions.{Stable}
-use Rattle.counting.specs.Laws.Index.{At}
+use Rattle.counting.specs.Index.{At}
 use Rattle.orm.specs.Diagram.{Diagram}
 use Rattle.orm.specs.Sets.{set_count, upper, limits}
 use Rattle.orm.specs.Meaning.{Between}

@@ -3,7 +3,7 @@
 -- clauses of the contracts of reading and writing, and of check and populating.
 use Rattle.std.specs.Prelude.{ℕ, suc, ◌+◌, ◌-◌, ◌≤◌, ◌≡◌, List, [], ◌∷◌, ◌++◌, length}
 use Rattle.counting.specs.Terms.{◌∈◌}
-use Rattle.counting.specs.Laws.Index.{At}
+use Rattle.counting.specs.Index.{At}
 use Rattle.orm.specs.Diagram.{ObjectType, Diagram}
 use Rattle.orm.specs.Text.{text_line, table_line}
 use Rattle.orm.specs.Population.{Population}

@@ -1,7 +1,7 @@
 -- S-2, 'Subtypes that have no table of their own' (document 02), on running code, as one statement over the calls for C, with its one proof in
 -- `Subtypes/Proof`. `Told` and `HasValidated` are what the contracts of check, populating and validating ensure of the four numbers.
 use Rattle.std.specs.Prelude.{ℕ, suc, min, ◌≤◌, ◌≡◌, List, [], ◌∷◌}
-use Rattle.counting.specs.Laws.Index.{At}
+use Rattle.counting.specs.Index.{At}
 use Rattle.orm.specs.Diagram.{ObjectType, index}
 use Rattle.orm.specs.Sets.{upper_of_type}
 use Rattle.orm.specs.Populate.{size}

@@ -2,6 +2,8 @@
 //
 // Each function calls the one of the same name and stores its answer. include/legshorgan.h declares
 // them.
+#![tactic(auto)]
+
 ghost use Rattle.std.specs.Prelude.{◌≡◌, [], ◌∷◌, length};
 ghost use Rattle.orm.specs.Outcome.{length_of, buffer_after, written, handed_back};
 ghost use Rattle.orm.specs.Calls.{read_call, check_call, populate_call, validate_call, write_call};

@@ -8,10 +8,10 @@ use Rattle.counting.specs.Terms.{◌∈◌}
 use Rattle.orm.specs.Diagram.{Diagram}
 use Rattle.orm.specs.Outcome.{Outcome, refused, accepted}
 use Rattle.orm.specs.Average.{PlacedGroup, placed_groups, group_numbered, Average, whole, fraction, average_of, average_call}
-use Rattle.orm.specs.Laws.Average.{numbered-one, numbered-none}
+use Rattle.orm.proofs.Laws.Average.{numbered-one, numbered-none}
 use Rattle.guarantee.specs.Guarantee.{NoPopulation, Populated}
 use Rattle.guarantee.specs.Averages.{Says, Averaged, AverageIn}
-use Rattle.guarantee.specs.Averages.Proof.{averages}
+use Rattle.guarantee.proofs.Averages.Proof.{averages}
 use Rattle.populate.specs.Demand3.{TableOf}
 use Rattle.populate.specs.Tied.{table-accepted}
 use Rattle.capi.specs.Answers.{average_numbers, float_after}

@@ -11,10 +11,10 @@ use Rattle.orm.specs.Outcome.{Outcome, refused, accepted, Sized, ◌>>=◌, fitt
 use Rattle.orm.specs.Text.{table_line}
 use Rattle.orm.specs.Calls.{diagram_in, population_in, validate_call}
 use Rattle.orm.specs.Meaning.{ValidPopulation}
-use Rattle.orm.specs.Laws.Named.{breaks-from_1}
-use Rattle.orm.specs.Laws.Cells.{population_in-iff, validate_iff}
+use Rattle.orm.proofs.Laws.Named.{breaks-from_1}
+use Rattle.orm.proofs.Laws.Cells.{population_in-iff, validate_iff}
 use Rattle.guarantee.specs.Guarantee.{FaultOfForm}
-use Rattle.guarantee.specs.Proof.{guarantee}
+use Rattle.guarantee.proofs.Guarantee.{guarantee}
 use Rattle.populate.specs.Demand3.{TableOf}
 use Rattle.populate.specs.Tied.{table-accepted}
 use Rattle.capi.specs.Answers.{numbers, verdict_numbers}

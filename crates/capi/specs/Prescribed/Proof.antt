@@ -7,9 +7,9 @@ use Rattle.orm.specs.Sets.{set_count}
 use Rattle.orm.specs.Outcome.{refused, accepted, buffer_after, written}
 use Rattle.orm.specs.Prescribe.{prescribe_call}
 use Rattle.orm.specs.Meaning.{Between}
-use Rattle.guarantee.specs.Ends.{refused_or_some}
+use Rattle.guarantee.proofs.Ends.{refused_or_some}
 use Rattle.guarantee.specs.Prescribed.{NoneHaving, Produced, PrescribedIn}
-use Rattle.guarantee.specs.Prescribed.Proof.{prescribed}
+use Rattle.guarantee.proofs.Prescribed.Proof.{prescribed}
 use Rattle.populate.specs.Answer.{cells_of}
 use Rattle.populate.specs.Demand3.{TableOf}
 use Rattle.populate.specs.Tied.{table-accepted}

@@ -2,7 +2,7 @@
 use Rattle.std.specs.Prelude.{ℕ, ◌+◌, ◌≤◌, ◌≡◌, refl, List, [], ◌∷◌, ◌++◌, length, take}
 use Rattle.std.proofs.Common.{sym, ap, subst, ◌∙◌}
 use Rattle.std.proofs.Math.Seq.{take-append_seam}
-use Rattle.counting.specs.Laws.Index.{At}
+use Rattle.counting.specs.Index.{At}
 use Rattle.orm.specs.Diagram.{Role, Diagram, diagram_line, line_of_count, all_roles, table}
 use Rattle.orm.specs.Text.{render, text_line, table_line}
 use Rattle.orm.specs.Sets.{first_role}
@@ -14,9 +14,9 @@ use Rattle.orm.specs.Calls.{diagram_in, population_in, read_call, write_call, ch
 use Rattle.orm.specs.Meaning.{Between}
 use Rattle.reading.specs.Exact.{written as lines}
 use Rattle.reading.specs.Cutting.{text_form, table_form}
-use Rattle.guarantee.specs.Proof.{guarantee}
+use Rattle.guarantee.proofs.Guarantee.{guarantee}
 use Rattle.guarantee.specs.RoleLimits.{TextKinds, TableLimits, Unchanged}
-use Rattle.guarantee.specs.RoleLimits.Proof.{role-limits}
+use Rattle.guarantee.proofs.RoleLimits.Proof.{role-limits}
 use Rattle.populate.specs.Demand3.{TableOf, TextOf, settled_sizes}
 use Rattle.populate.specs.Tied.{table-accepted}
 use Rattle.capi.specs.Answers.{verdict_numbers}

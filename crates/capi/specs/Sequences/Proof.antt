@@ -3,14 +3,14 @@ use Rattle.std.specs.Prelude.{ℕ, ◌+◌, ◌≤◌, ◌<◌, ◌≡◌, ◌�
 use Rattle.std.proofs.Common.{zero-add, arith, subst, ◌∙◌, take-append-drop, length-take-le}
 use Rattle.std.proofs.Math.Decide.{dec_le}
 use Rattle.std.proofs.Math.Path.{refl, sym, ap}
-use Rattle.std.proofs.Math.Logic.{Iff·trans, Iff·symm}
+use Rattle.std.proofs.Math.Logic.Iff
 use mathlib.Core.List.{List, [], ◌∷◌, ◌++◌}
 use Rattle.std.proofs.Math.ListN.{length, drop}
 use Rattle.std.proofs.Math.Seq.{take-append_seam, drop-append_seam}
 use Rattle.counting.specs.Totals.{bit, sum_over}
 use Rattle.fixpoint.specs.Limits.{step_at, steps_by, lowers_at, any_lowers, fixpoint}
 use Rattle.fixpoint.specs.Notions.{LowersTo, EachLowers, Stable}
-use Rattle.fixpoint.specs.Laws.AnyOrder.{steps_≼}
+use Rattle.fixpoint.proofs.Laws.AnyOrder.{steps_≼}
 use Rattle.orm.specs.Diagram.{Diagram}
 use Rattle.orm.specs.Text.{table_line}
 use Rattle.orm.specs.Sets.{set_count, upper, limits, verdict}
@@ -18,11 +18,11 @@ use Rattle.orm.specs.Outcome.{refused, accepted, fitted, buffer_after}
 use Rattle.orm.specs.Calls.{diagram_in}
 use Rattle.orm.specs.SingleLimits.{start_call, lower_call, survey_call, bounds_of, found_of}
 use Rattle.orm.specs.Meaning.{Between}
-use Rattle.orm.specs.Laws.Bounds.{upper-sets}
+use Rattle.orm.proofs.Laws.Bounds.{upper-sets}
 use Rattle.guarantee.specs.Guarantee.{NoPopulation}
-use Rattle.guarantee.specs.Proof.{guarantee}
+use Rattle.guarantee.proofs.Guarantee.{guarantee}
 use Rattle.guarantee.specs.Sequences.{SomeBelow, EndOf, OneLimit, SequencesOf}
-use Rattle.guarantee.specs.Sequences.Proof.{sequences}
+use Rattle.guarantee.proofs.Sequences.Proof.{sequences}
 use Rattle.populate.specs.Demand3.{TableOf, settled_sizes}
 use Rattle.populate.specs.Tied.{table-accepted}
 use Rattle.capi.specs.Answers.{found_numbers}
@@ -224,7 +224,7 @@ module _ {t : List ℕ} (x : TableOf t) where
 
   none-iff : {m : ℕ} {end : List ℕ} → CarriesOn t m end → NoPopulation x.diagram ↔ SomeBelow x.diagram end
   none-iff c =
-      Iff·trans (Iff·symm ((guarantee.of_table t x.diagram (table-accepted x)).check_refuses.exactly_when 0)) ((end_of c).check_refuses.exactly_when 0)
+      Iff.trans (Iff.symm ((guarantee.of_table t x.diagram (table-accepted x)).check_refuses.exactly_when 0)) ((end_of c).check_refuses.exactly_when 0)
 
 -- ---- what check says
 
@@ -297,7 +297,7 @@ sequences-told = record {
   finite = λ x c. within x c;
   carried_on = λ x c. stable x c;
   same_end = λ x c b. same x c b;
-  emptied = λ x c told. Iff·trans (emptied x told) (none-iff x c);
+  emptied = λ x c told. Iff.trans (emptied x told) (none-iff x c);
   settled = settled;
   no_limit = λ x has h. refused-so has ((said x).no_limit _ _ h);
   too_short = λ x has h s. refused-so has (((said x).too_short _ s).2 _ h);

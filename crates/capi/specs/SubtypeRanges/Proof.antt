@@ -2,7 +2,7 @@
 use Rattle.std.specs.Prelude.{ℕ, suc, ◌+◌, ◌-◌, ◌≤◌, ◌≡◌, List, [], ◌∷◌, ◌++◌, length}
 use Rattle.std.proofs.Common.{le_refl, ap, subst, ◌∙◌}
 use Rattle.counting.specs.Terms.{◌∈◌}
-use Rattle.counting.specs.Laws.Index.{At}
+use Rattle.counting.specs.Index.{At}
 use Rattle.orm.specs.Diagram.{ObjectType, Diagram}
 use Rattle.orm.specs.Text.{text_line, table_line}
 use Rattle.orm.specs.Population.{Population}
@@ -14,7 +14,7 @@ use Rattle.orm.specs.Meaning.{Between}
 use Rattle.reading.specs.Exact.{written as lines}
 use Rattle.reading.specs.Cutting.{text_form, table_form}
 use Rattle.guarantee.specs.SubtypeRanges.{RangedSubtype, TableRanges, Unchanged, type_lines}
-use Rattle.guarantee.specs.SubtypeRanges.Proof.{subtype-ranges}
+use Rattle.guarantee.proofs.SubtypeRanges.Proof.{subtype-ranges}
 use Rattle.populate.specs.Demand3.{TableOf, settled_sizes}
 use Rattle.populate.specs.Tied.{table-accepted}
 use Rattle.capi.specs.Answers.{verdict_numbers}

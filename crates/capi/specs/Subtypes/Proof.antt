@@ -1,7 +1,8 @@
 -- The proof of S-2 on running code: from what the contracts ensure, by the statement over the definitions.
 use Rattle.std.specs.Prelude.{ℕ, suc, min, ◌≤◌, ◌≡◌, List, [], ◌∷◌}
 use Rattle.std.proofs.Common.{le_refl, arith, ap, subst, ◌∙◌}
-use Rattle.counting.specs.Laws.Index.{At, each-from-at}
+use Rattle.counting.proofs.Laws.Index.{each-from-at}
+use Rattle.counting.specs.Index.{At}
 use Rattle.fixpoint.specs.Limits.{unsatisfiable}
 use Rattle.orm.specs.Diagram.{ObjectType, Diagram, index}
 use Rattle.orm.specs.Sets.{upper_of_type, verdict}
@@ -9,7 +10,7 @@ use Rattle.orm.specs.Populate.{size}
 use Rattle.orm.specs.WellFormed.{TypeForm}
 use Rattle.guarantee.specs.Guarantee.{NoPopulation, EmptiedAt, Populated}
 use Rattle.guarantee.specs.Subtypes.{FreeSubtype, RolelessRoot, TableSubtypes}
-use Rattle.guarantee.specs.Subtypes.Proof.{subtypes}
+use Rattle.guarantee.proofs.Subtypes.Proof.{subtypes}
 use Rattle.bounds.specs.Answer.{settlement_of}
 use Rattle.bounds.specs.declared.Settlement.{Settlement}
 use Rattle.bounds.specs.declared.Settlement.TheVariants.{Refused, Unsatisfiable, TooShort, Accepted}

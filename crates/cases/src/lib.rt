@@ -2,13 +2,21 @@
 // digits and a line feed, and so many bytes. A list of numbers is written with commas between and a
 // line feed behind the last; the empty list is no byte.
 //
-// No contract can speak of what is read or printed; those of the functions that read say that the
-// count lies within the buffer.
-ghost use Rattle.std.specs.Prelude.{◌≡◌, ◌+◌, ◌*◌, ◌-◌, ◌%◌, min, length};
-ghost use Rattle.io.specs.Counts.{IsPrefixLen};
+// No contract can speak of what a file holds or what is printed; those of the functions that read say
+// that the count lies within the buffer. Of a reader whose bytes are known they say how many were read at
+// most, and that these are gone from its front and nothing else, at an error too. Their errors are the
+// reader's own: they make none.
+#![tactic(auto)]
+
+ghost use Rattle.std.specs.Prelude.{ℕ, ◌≡◌, ◌+◌, ◌*◌, ◌-◌, ◌%◌, ◌≤◌, min, List, length, take};
+ghost use Rattle.std.specs.Io.{ReadsAtMost};
+ghost use Rattle.std.specs.Io.KnownBytes.{Consumes};
 ghost use Rattle.buffer.specs.Written.{Wrote};
 ghost use Rattle.cases.specs.Numbers.{going_on, ended, numbers_from};
 ghost use Rattle.cases.specs.Lines.{joint, joined, comparison};
+
+use std::io;
+use std::io::Read;
 
 // The value of a digit.
 fn digit(b: u8) -> u8
@@ -62,7 +70,8 @@ fn write_numbers(text: &[u8], out: &mut [u32]) -> usize
 
 // The smaller of n and the number of bytes.
 pub fn within(n: usize, bytes: &[u8]) -> usize
-    ensures prefix_len { IsPrefixLen result bytes.now }
+    ensures inside { result ≤ length bytes.now }
+    ensures counts { result ≡ length (take result bytes.now) }
     ensures value { result ≡ min n (length bytes.now) }
 {
     if n < bytes.len() { n } else { bytes.len() }
@@ -70,40 +79,45 @@ pub fn within(n: usize, bytes: &[u8]) -> usize
 
 // The smaller of n and the number of numbers.
 pub fn within_numbers(n: usize, numbers: &[u32]) -> usize
-    ensures prefix_len { IsPrefixLen result numbers.now }
+    ensures inside { result ≤ length numbers.now }
+    ensures counts { result ≡ length (take result numbers.now) }
     ensures value { result ≡ min n (length numbers.now) }
 {
     if n < numbers.len() { n } else { numbers.len() }
 }
 
 // The next number of the file, of seven digits and a line feed; 0 where the file has ended.
-pub fn next_number(fd: i32) -> usize {
+pub fn next_number<R: Read>(file: &mut R) -> io::Result<usize>
+    ensures taken { (bs : List ℕ) × (length bs ≤ 8) × Consumes (R.remaining file.old) (R.remaining file.new) bs }
+{
     let mut digits = [0u8; 8];
-    let n = io::read_full(fd, &mut digits);
+    let n = input::read_full(file, &mut digits)?;
     let mut number = [0u32; 1];
     write_numbers(&digits[..n], &mut number);
-    numerals::item(&number, 0, 0)
+    Ok(numerals::item(&number, 0, 0))
 }
 
 // The next case goes to the front of the buffer. One that is longer than the buffer is cut, and the
 // cases behind it are lost.
-pub fn next(fd: i32, space: &mut [u8]) -> usize
-    ensures { IsPrefixLen result space.new }
+pub fn next<R: Read>(file: &mut R, space: &mut [u8]) -> io::Result<usize>
+    ensures bound { ReadsAtMost result space.new }
+    ensures taken { (bs : List ℕ) × (length bs ≤ 8 + length space.new) × Consumes (R.remaining file.old) (R.remaining file.new) bs }
 {
-    let n = within(next_number(fd), space);
-    let got = io::read_full(fd, &mut space[..n]);
-    within(got, space)
+    let n = within(next_number(file)?, space);
+    let got = input::read_full(file, &mut space[..n])?;
+    Ok(within(got, space))
 }
 
 // The numbers of the next case, which is a list of them, go to the front of the buffer. One that has no room for them all has
 // the first of them.
-pub fn next_numbers(fd: i32, out: &mut [u32]) -> usize
-    ensures { IsPrefixLen result out.new }
+pub fn next_numbers<R: Read>(file: &mut R, out: &mut [u32]) -> io::Result<usize>
+    ensures bound { ReadsAtMost result out.new }
+    ensures taken { (bs : List ℕ) × (length bs ≤ 65544) × Consumes (R.remaining file.old) (R.remaining file.new) bs }
 {
-    let mut text = io::large_buffer();
-    let n = next(fd, &mut text);
+    let mut text = [0u8; 65536];
+    let n = next(file, &mut text)?;
     let to = write_numbers(&text[..n], out);
-    within_numbers(to, out)
+    Ok(within_numbers(to, out))
 }
 
 // `;` for a line feed.
@@ -137,7 +151,7 @@ pub fn push_same(out: &mut [u8], at: usize, same: bool) -> usize
 }
 
 // Prints the first n bytes.
-pub fn print(bytes: &[u8], n: usize) {
+pub fn print(rt: &impl Print, bytes: &[u8], n: usize) -> io::Result<()> {
     let n = within(n, bytes);
-    io::write_all(1, &bytes[..n]);
+    rt.write_all(&bytes[..n])
 }

@@ -1,29 +1,37 @@
 // Prints a line for each text of the file `texts`: the program's output, with `;` for each line
 // feed; and behind it, where reading accepts the text, whether writing its table gives it again.
 
-fn main() {
-    let fd = os::open_read(b"texts");
-    print_cases(fd, cases::next_number(fd));
+#![tactic(auto)]
+
+use std::fs::File;
+use std::io;
+use std::io::Read;
+
+fn main(rt: HostRuntime) -> io::Result<()> {
+    let mut file = File::open(&rt, "texts")?;
+    let count = cases::next_number(&mut file)?;
+    print_cases(&rt, &mut file, count)
 }
 
-fn print_cases(fd: i32, count: usize) {
+fn print_cases(rt: &impl Print, file: &mut impl Read, count: usize) -> io::Result<()> {
     let mut left = count;
     while 0 < left {
-        print_case(fd);
+        print_case(rt, file)?;
         left -= 1;
     }
+    Ok(())
 }
 
 fn text_space() -> [u8; 262144] {
     [0u8; 262144]
 }
 
-fn print_case(fd: i32) {
+fn print_case(rt: &impl Print, file: &mut impl Read) -> io::Result<()> {
     let mut text = text_space();
-    let n = cases::next(fd, &mut text);
-    let mut line = io::large_buffer();
+    let n = cases::next(file, &mut text)?;
+    let mut line = [0u8; 65536];
     let to = push_case(&mut line, &text[..n]);
-    cases::print(&line, to);
+    cases::print(rt, &line, to)
 }
 
 // The line of a text.
@@ -34,7 +42,7 @@ fn push_case(out: &mut [u8], text: &[u8]) -> usize {
 }
 
 fn push_output(out: &mut [u8], text: &[u8]) -> usize {
-    let mut output = io::large_buffer();
+    let mut output = [0u8; 65536];
     let n = command::run(text, &mut output);
     let n = cases::within(n, &output);
     cases::push_joined(out, 0, &output[..n])
@@ -60,7 +68,7 @@ fn push_return(out: &mut [u8], at: usize, text: &[u8]) -> usize {
 
 // Whether writing the table gives this text.
 fn is_text_of(table: &[u32], text: &[u8]) -> bool {
-    let mut written = io::large_buffer();
+    let mut written = [0u8; 65536];
     let answer = writer::write(table, &mut written);
     match answer {
         reader::Conversion::Refused { fault: _, line: _ } => false,

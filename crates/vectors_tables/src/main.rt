@@ -1,37 +1,44 @@
 // Prints a line for each table of the file `tables`: what `form` says of it, `accepted=LENGTH` or
 // `refused=NUMBER,PLACE,ROUND`; and behind it whether the other calls agree: check and write refuse
 // the same tables likewise, and the text of an accepted one is read as the same table.
+#![tactic(auto)]
+
+use std::fs::File;
+use std::io;
+use std::io::Read;
 
 // The number and the line of a refusal for a fault of form; 0, 0: the table has none.
-#[derive(Drop)]
+#[derive(Clone, Copy)]
 struct Form {
     number: usize,
     line: usize,
 }
 
-fn main() {
-    let fd = os::open_read(b"tables");
-    print_cases(fd, cases::next_number(fd));
+fn main(rt: HostRuntime) -> io::Result<()> {
+    let mut file = File::open(&rt, "tables")?;
+    let count = cases::next_number(&mut file)?;
+    print_cases(&rt, &mut file, count)
 }
 
-fn print_cases(fd: i32, count: usize) {
+fn print_cases(rt: &impl Print, file: &mut impl Read, count: usize) -> io::Result<()> {
     let mut left = count;
     while 0 < left {
-        print_case(fd);
+        print_case(rt, file)?;
         left -= 1;
     }
+    Ok(())
 }
 
 fn table_space() -> [u32; 1024] {
     [0u32; 1024]
 }
 
-fn print_case(fd: i32) {
+fn print_case(rt: &impl Print, file: &mut impl Read) -> io::Result<()> {
     let mut table = table_space();
-    let n = cases::next_numbers(fd, &mut table);
-    let mut line = io::buffer();
+    let n = cases::next_numbers(file, &mut table)?;
+    let mut line = [0u8; 4096];
     let to = push_case(&mut line, &table[..n]);
-    cases::print(&line, to);
+    cases::print(rt, &line, to)
 }
 
 // The line of a table.
@@ -51,7 +58,7 @@ fn push_form(out: &mut [u8], form: Form, length: usize) -> usize {
 }
 
 fn push_outcome(out: &mut [u8], form: Form, length: usize) -> usize {
-    let mut line = io::buffer();
+    let mut line = [0u8; 4096];
     let n = push_form(&mut line, form, length);
     let n = cases::within(n, &line);
     cases::push_joined(out, 0, &line[..n])
@@ -109,7 +116,7 @@ fn is_checked_likewise(table: &[u32], form: Form) -> bool {
 
 // Whether writing says the same of the form, and reading the text gives the table again.
 fn is_written_likewise(table: &[u32], form: Form) -> bool {
-    let mut text = io::large_buffer();
+    let mut text = [0u8; 65536];
     let answer = writer::write(table, &mut text);
     match answer {
         reader::Conversion::Refused { fault, line } => is_same(form, refused(fault, line)),

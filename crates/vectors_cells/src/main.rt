@@ -1,18 +1,25 @@
 // Prints a line for each pair of a table and cells of the file `cells`: `broken=K,NUMBER`, with 0,0
 // where the cells are valid, or `refused=NUMBER,PLACE,ROUND`.
+#![tactic(auto)]
+
+use std::fs::File;
+use std::io;
+use std::io::Read;
 use validator::ValidateAnswer;
 
-fn main() {
-    let fd = os::open_read(b"cells");
-    print_cases(fd, cases::next_number(fd));
+fn main(rt: HostRuntime) -> io::Result<()> {
+    let mut file = File::open(&rt, "cells")?;
+    let count = cases::next_number(&mut file)?;
+    print_cases(&rt, &mut file, count)
 }
 
-fn print_cases(fd: i32, count: usize) {
+fn print_cases(rt: &impl Print, file: &mut impl Read, count: usize) -> io::Result<()> {
     let mut left = count;
     while 0 < left {
-        print_case(fd);
+        print_case(rt, file)?;
         left -= 1;
     }
+    Ok(())
 }
 
 fn table_space() -> [u32; 1024] {
@@ -23,18 +30,18 @@ fn cell_space() -> [u32; 16000] {
     [0u32; 16000]
 }
 
-fn print_case(fd: i32) {
+fn print_case(rt: &impl Print, file: &mut impl Read) -> io::Result<()> {
     let mut table = table_space();
-    let t = cases::next_numbers(fd, &mut table);
+    let t = cases::next_numbers(file, &mut table)?;
     let mut cells = cell_space();
-    let c = cases::next_numbers(fd, &mut cells);
-    print_outcome(validator::validate(&table[..t], &cells[..c]));
+    let c = cases::next_numbers(file, &mut cells)?;
+    print_outcome(rt, validator::validate(&table[..t], &cells[..c]))
 }
 
-fn print_outcome(answer: ValidateAnswer) {
-    let mut line = io::buffer();
+fn print_outcome(rt: &impl Print, answer: ValidateAnswer) -> io::Result<()> {
+    let mut line = [0u8; 4096];
     let to = push_outcome(&mut line, answer);
-    cases::print(&line, to);
+    cases::print(rt, &line, to)
 }
 
 fn push_outcome(out: &mut [u8], answer: ValidateAnswer) -> usize {

@@ -2,30 +2,38 @@
 // use one after another end, `ceilings=N,..`, and what the check says, `rounds=N` or
 // `refused=7,SET,ROUND`; of a table with a fault `refused=NUMBER,LINE,0`. The limits are taken from the
 // last to the first, again and again, until none lowers a bound.
-fn main() {
-    let fd = os::open_read(b"sequences");
-    print_cases(fd, cases::next_number(fd));
+#![tactic(auto)]
+
+use std::fs::File;
+use std::io;
+use std::io::Read;
+
+fn main(rt: HostRuntime) -> io::Result<()> {
+    let mut file = File::open(&rt, "sequences")?;
+    let count = cases::next_number(&mut file)?;
+    print_cases(&rt, &mut file, count)
 }
 
-fn print_cases(fd: i32, count: usize) {
+fn print_cases(rt: &impl Print, file: &mut impl Read, count: usize) -> io::Result<()> {
     let mut left = count;
     while 0 < left {
-        print_case(fd);
+        print_case(rt, file)?;
         left -= 1;
     }
+    Ok(())
 }
 
 fn table_space() -> [u32; 1024] {
     [0u32; 1024]
 }
 
-fn print_case(fd: i32) {
+fn print_case(rt: &impl Print, file: &mut impl Read) -> io::Result<()> {
     let mut table = table_space();
-    let n = cases::next_numbers(fd, &mut table);
-    let mut line = io::buffer();
+    let n = cases::next_numbers(file, &mut table)?;
+    let mut line = [0u8; 4096];
     let to = push_case(&mut line, &table[..n]);
     let to = buffer::bytes::push(&mut line, to, b'\n');
-    cases::print(&line, to);
+    cases::print(rt, &line, to)
 }
 
 fn set_space() -> [u32; 208] {
@@ -88,21 +96,21 @@ fn carry_on(table: &[u32], sizes: &mut [u32]) {
 }
 
 fn push_bounds(out: &mut [u8], sizes: &[u32], count: usize) -> usize {
-    let mut line = io::buffer();
+    let mut line = [0u8; 4096];
     let n = numerals::push_line(&mut line, 0, b"ceilings=", sizes, 0, count);
     let n = cases::within(n, &line);
     cases::push_joined(out, 0, &line[..n])
 }
 
 fn push_refusal(out: &mut [u8], at: usize, number: usize, place: usize, round: usize) -> usize {
-    let mut line = io::buffer();
+    let mut line = [0u8; 4096];
     let n = command::push_refusal(&mut line, number, place, round);
     let n = cases::within(n, &line);
     cases::push_joined(out, at, &line[..n])
 }
 
 fn push_rounds(out: &mut [u8], at: usize, rounds: usize) -> usize {
-    let mut line = io::buffer();
+    let mut line = [0u8; 4096];
     let n = numerals::push_count(&mut line, 0, b"rounds=", rounds);
     let n = cases::within(n, &line);
     cases::push_joined(out, at, &line[..n])

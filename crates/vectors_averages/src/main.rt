@@ -1,41 +1,48 @@
 // Prints a line for each table and set number of the file `averages`: `whole=N;` or `bits=H;`, the 64 bits
 // of the float in hexadecimal, of the group with this number, or `refused=NUMBER,PLACE,ROUND;`.
-use averages::AverageAnswer;
+#![tactic(auto)]
 
-fn main() {
-    let fd = os::open_read(b"averages");
-    print_cases(fd, cases::next_number(fd));
+use averages::AverageAnswer;
+use std::fs::File;
+use std::io;
+use std::io::Read;
+
+fn main(rt: HostRuntime) -> io::Result<()> {
+    let mut file = File::open(&rt, "averages")?;
+    let count = cases::next_number(&mut file)?;
+    print_cases(&rt, &mut file, count)
 }
 
-fn print_cases(fd: i32, count: usize) {
+fn print_cases(rt: &impl Print, file: &mut impl Read, count: usize) -> io::Result<()> {
     let mut left = count;
     while 0 < left {
-        print_case(fd);
+        print_case(rt, file)?;
         left -= 1;
     }
+    Ok(())
 }
 
 fn table_space() -> [u32; 1024] {
     [0u32; 1024]
 }
 
-fn print_case(fd: i32) {
+fn print_case(rt: &impl Print, file: &mut impl Read) -> io::Result<()> {
     let mut table = table_space();
-    let n = cases::next_numbers(fd, &mut table);
+    let n = cases::next_numbers(file, &mut table)?;
     let mut given = [0u32; 1];
-    cases::next_numbers(fd, &mut given);
-    print_outcome(averages::average(&table[..n], given[0]));
+    cases::next_numbers(file, &mut given)?;
+    print_outcome(rt, averages::average(&table[..n], given[0]))
 }
 
 // The line of an outcome, with `;` for its line feed.
-fn print_outcome(answer: AverageAnswer) {
+fn print_outcome(rt: &impl Print, answer: AverageAnswer) -> io::Result<()> {
     let mut line = [0u8; 64];
     let n = push_outcome(&mut line, answer);
     let n = cases::within(n, &line);
     let mut out = [0u8; 64];
     let to = cases::push_joined(&mut out, 0, &line[..n]);
     let to = buffer::bytes::push(&mut out, to, b'\n');
-    cases::print(&out, to);
+    cases::print(rt, &out, to)
 }
 
 fn push_outcome(out: &mut [u8], answer: AverageAnswer) -> usize {

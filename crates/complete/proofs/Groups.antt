@@ -18,7 +18,7 @@ use Rattle.counting.proofs.Laws.Maps.{map_congr, map_from_congr}
 use Rattle.counting.proofs.Laws.Members.{map_agree}
 use Rattle.counting.proofs.Laws.Range.{in_below-iff}
 use Rattle.counting.specs.Terms.{◌∈◌}
-use Rattle.pairing.proofs.Laws.Walks.{EvenShare}
+use Rattle.pairing.specs.Notions.{EvenShare}
 use Rattle.orm.specs.Constraints.{Grouped, grouped}
 use Rattle.orm.specs.Diagram.{Diagram, Frequency, Role}
 use Rattle.orm.specs.Meaning.{Between, M9}

@@ -7,8 +7,8 @@ use Rattle.counting.proofs.Laws.Count.{count-pos}
 use Rattle.counting.proofs.Laws.Index.{at-below, at-get_or, at_in, at_map, below_at, in_at}
 use Rattle.counting.specs.Index.{At}
 use Rattle.counting.specs.Terms.{◌∈◌}
-use Rattle.pairing.proofs.Laws.{Fits, tuples-below, tuples-cover, tuples-differ, tuples-even, tuples-length}
-use Rattle.pairing.proofs.Laws.Walks.{EvenShare, hits}
+use Rattle.pairing.specs.Notions.{EvenShare, Fits, hits}
+use Rattle.pairing.proofs.Laws.{tuples-below, tuples-cover, tuples-differ, tuples-even, tuples-length}
 use Rattle.orm.specs.Diagram.{Diagram, Role}
 use Rattle.orm.specs.Populate.{index_in_row, part_tuple, parts_of_row, size}
 use Rattle.orm.specs.Sets.{Part, Placed, parts, placed}

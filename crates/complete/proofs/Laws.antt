@@ -7,11 +7,9 @@ use Rattle.std.specs.Prelude.{ℕ, ◌≡◌, refl, List}
 use Rattle.counting.specs.Terms.{◌∈◌}
 use Rattle.fixpoint.specs.Limits.{fixpoint}
 use Rattle.fixpoint.proofs.Laws.Order.{≼_trans}
-use Rattle.orm.specs.Constraints.{sizes}
 use Rattle.orm.specs.Diagram.{Diagram, Predicate}
-use Rattle.orm.specs.Meaning.{EachPred, Meets, ValidPopulation}
+use Rattle.orm.specs.Meaning.{EachPred, Meets}
 use Rattle.orm.specs.Populate.{population, rows}
-use Rattle.orm.specs.Population.{cells}
 use Rattle.orm.specs.Sets.{Placed, placed, verdict_from}
 use Rattle.orm.proofs.Laws.Rounds.{inside-laws}
 use Rattle.orm.specs.Inside.{Inside}
@@ -19,16 +17,12 @@ use Rattle.orm.proofs.Laws.Shape.{population-shaped}
 use Rattle.orm.specs.WellFormed.{WellFormed}
 use Rattle.complete.proofs.Place.{each-pred}
 use Rattle.complete.proofs.Sizes.{sizes_again}
+use Rattle.complete.specs.Laws.{PopulationLaws}
 use Rattle.complete.specs.Solved.{Solved}
 use Rattle.complete.proofs.Types
 use Rattle.complete.proofs.Rows
 use Rattle.complete.proofs.Groups
 use Rattle.complete.proofs.Covered
-
--- What the population made from the sizes `c` is
-pub record PopulationLaws (d : Diagram) (c : List ℕ) : Type 0 where
-  pub valid : ValidPopulation d (cells (population d c))
-  pub exact : sizes d valid.population ≡ c
 
 module _ (d : Diagram) (c : List ℕ) (s : Solved d c) where
   each-pred-populated : (P : Predicate → List (List ℕ) → Type 0) → ((x : Placed) → x ∈ placed d → P x.predicate (rows d c x))

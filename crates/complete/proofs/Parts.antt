@@ -22,7 +22,7 @@ use Rattle.counting.proofs.Laws.Members.{each_nil, each-cons, each_map, no_repea
 use Rattle.counting.proofs.Laws.Range.{in_up_from, of-up_from, up_from_no_repeats}
 use Rattle.counting.specs.Terms.{NoRepeats, ◌∈◌}
 use Rattle.counting.specs.Totals.{product_over}
-use Rattle.pairing.proofs.Laws.{Fits}
+use Rattle.pairing.specs.Notions.{Fits}
 use Rattle.orm.specs.Diagram.{Diagram, Frequency, Role}
 use Rattle.orm.specs.Populate.{size}
 use Rattle.orm.proofs.Laws.Select.{in_select, of-select, select_no_repeats}

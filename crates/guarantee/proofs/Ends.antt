@@ -19,7 +19,8 @@ use Rattle.orm.proofs.Laws.Rounds.{inside-laws}
 use Rattle.orm.specs.Inside.{Inside}
 use Rattle.reading.specs.Laws.{fits, does_not-fit}
 use Rattle.guarantee.specs.Settling.{RefusesBy, Writes, sized}
-use Rattle.guarantee.proofs.Inside.{NoneFits, emptied-none, none-emptied}
+use Rattle.guarantee.specs.Inside.{NoneFits}
+use Rattle.guarantee.proofs.Inside.{emptied-none, none-emptied}
 
 pub read-ends : (text : List ℕ) (d : Diagram) (space : ℕ) → diagram_in text_line text ≡ accepted d → read_call text space ≡ fitted space (table d)
 unfolding read_call

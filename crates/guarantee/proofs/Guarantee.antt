@@ -12,7 +12,8 @@ use Rattle.orm.proofs.Laws.Rounds.{own-bounds, verdict-laws}
 use Rattle.orm.proofs.Laws.Cells.{population_in-iff, validate_iff}
 use Rattle.reading.specs.Laws.{text-accepted-iff, table-accepted-iff, accepted_or_fault, accepted-text-table, fits, does_not-fit}
 use Rattle.sound.proofs.Laws.{valid-laws, valid-small}
-use Rattle.guarantee.proofs.Inside.{NoneFits, settled-greatest, some-settled}
+use Rattle.guarantee.specs.Inside.{NoneFits}
+use Rattle.guarantee.proofs.Inside.{settled-greatest, some-settled}
 use Rattle.guarantee.proofs.Ends.{read-ends, check-ends, populate-ends, refuses-by, writes-made}
 use Rattle.guarantee.specs.Guarantee.{NoPopulation, TextGuarantee, Populated, TableGuarantee, FaultOfForm, Guarantee}
 

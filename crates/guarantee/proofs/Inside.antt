@@ -2,30 +2,14 @@
 -- Demand 3 is this theorem at the diagram's own bounds, which every valid population is between.
 use Rattle.std.specs.Prelude.{ℕ, ◌≡◌, refl, List}
 use Rattle.fixpoint.specs.Limits.{Verdict, unsatisfiable, fixpoint}
-use Rattle.fixpoint.specs.Notions.{◌≼◌}
 use Rattle.orm.specs.Diagram.{Diagram}
 use Rattle.orm.specs.Sets.{verdict_from}
-use Rattle.orm.specs.Constraints.{sizes}
-use Rattle.orm.specs.Meaning.{ValidPopulation}
 use Rattle.orm.specs.WellFormed.{WellFormed}
 use Rattle.orm.proofs.Laws.Rounds.{inside-laws}
 use Rattle.orm.specs.Inside.{Inside}
 use Rattle.sound.proofs.Laws.{valid-laws}
-use Rattle.complete.proofs.Laws.{PopulationLaws, population-laws, fixpoint-solved}
-
--- Sizes between the bounds
-pub record Fits (low high x : List ℕ) : Type 0 where
-  pub above : low ≼ x
-  pub under : x ≼ high
-
-abbrev pub NoneFits : Diagram → List ℕ → List ℕ → Type 0
-NoneFits d low high = (s : List ℕ) (o : ValidPopulation d s) → ¬ Fits low high (sizes d o.population)
-
--- What the population made from the sizes `c` is among those that fit
-pub record GreatestPopulation (d : Diagram) (low high c : List ℕ) : Type 0 where
-  pub made : PopulationLaws d c
-  pub fits : Fits low high c
-  pub greatest : (s : List ℕ) (o : ValidPopulation d s) → Fits low high (sizes d o.population) → sizes d o.population ≼ c
+use Rattle.complete.proofs.Laws.{population-laws, fixpoint-solved}
+use Rattle.guarantee.specs.Inside.{NoneFits, GreatestPopulation}
 
 module _ {d : Diagram} {low high : List ℕ} (form : WellFormed d) (i : Inside d low high) where
   pub emptied-none : {s n : ℕ} → verdict_from d low high ≡ unsatisfiable s n → NoneFits d low high

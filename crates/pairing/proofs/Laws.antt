@@ -13,14 +13,14 @@ use Rattle.counting.specs.Terms.{Each}
 use Rattle.counting.proofs.Laws.Members.{get_or_in}
 use Rattle.counting.proofs.Laws.Count.{count_ext}
 use Rattle.pairing.specs.Pairing.{Tuples, tuples, left_of, right_of}
+use Rattle.pairing.specs.Notions.{hits, EvenShare, Walk, product, Fits, entry}
 use Rattle.pairing.proofs.Laws.Walks.{walk_lt}
 use Rattle.pairing.proofs.Laws.Pair.{left_of-walk, right_of-walk}
 use Rattle.pairing.proofs.Laws.Digits.{digits-length, digits-walk, digits_inj}
 use Rattle.pairing.proofs.Laws.Prefix.{Starts, tuples-starts}
 pub use Rattle.pairing.proofs.Laws.Gcd.{gcd_is_gcd, gcd_within-enough, gcd-pos, lcm_is_lcm, lcm-pos, gcd_mul_lcm}
-pub use Rattle.pairing.proofs.Laws.Walks.{hits, EvenShare, Walk, walk-even, once_turned}
+pub use Rattle.pairing.proofs.Laws.Walks.{walk-even, once_turned}
 pub use Rattle.pairing.proofs.Laws.Pair.{pair_inj}
-pub use Rattle.pairing.proofs.Laws.Digits.{product}
 unfoldable pub use Rattle.pairing.proofs.Laws.Digits.{digit, digits}
 
 -- ---- pairs
@@ -32,17 +32,6 @@ pub right-even : (s t n y : ℕ) → y < t → EvenShare n t (hits n (right_of s
 right-even s t n y h = walk-even t (right_of s t) n y (right_of-walk s t) h
 
 -- ---- tuples
-
--- No set is empty, none is larger than the count wanted, and so many different tuples can be made
-pub record Fits (want : ℕ) (sizes : List ℕ) : Type 0 where
-  pub some : 0 < want
-  pub positive : Each (0 <◌) sizes
-  pub small : Each (◌≤ want) sizes
-  pub enough : want ≤ product sizes
-
--- The member of set `k` in tuple `i`
-abbrev pub entry : Tuples → ℕ → ℕ → ℕ
-entry r k i = get_or (r.row i) k 0
 
 module _ (want : ℕ) (sizes : List ℕ) (fits : Fits want sizes) where
   starts : Starts want (product sizes) (tuples want sizes) (digits 1 sizes)

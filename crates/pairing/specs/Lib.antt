@@ -1,3 +1,4 @@
 pub mod Pairing
 pub mod Multiples
 pub mod Divisors
+pub mod Notions

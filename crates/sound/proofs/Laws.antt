@@ -1,37 +1,25 @@
 -- The rounds are sound: the sizes of every population that meets the constraints of a well-formed diagram satisfy the diagram's limits, so that no
 -- round brings an upper bound below them.
-use Rattle.std.specs.Prelude.{ℕ, ◌≤◌, ◌≡◌, List}
+use Rattle.std.specs.Prelude.{ℕ, ◌≤◌, List}
 use Rattle.std.proofs.Math.Nat.{zero-add}
 use Rattle.counting.specs.Terms.{Each}
 use Rattle.counting.proofs.Laws.Members.{each_append, of-flat_map}
 use Rattle.counting.proofs.Laws.Index.{of-flatten-map_from}
-use Rattle.fixpoint.specs.Limits.{unsatisfiable, fixpoint}
 use Rattle.fixpoint.specs.Notions.{◌≼◌, Holds, Satisfies, Solution}
 use Rattle.fixpoint.proofs.Laws.{round-laws}
 use Rattle.orm.specs.Diagram.{Diagram}
-use Rattle.orm.specs.Sets.{lower, upper, limits, limits_of_pred, limits_of_type, placed, upper_after_rounds, verdict_from}
+use Rattle.orm.specs.Sets.{upper, limits, limits_of_pred, limits_of_type, placed, upper_after_rounds, verdict_from}
 use Rattle.orm.specs.Population.{Population}
 use Rattle.orm.specs.Constraints.{sizes}
 use Rattle.orm.specs.Meaning.{Meets, Shaped, ValidPopulation}
 use Rattle.orm.specs.WellFormed.{WellFormed}
 use Rattle.orm.proofs.Laws.Rounds.{inside-laws}
-use Rattle.orm.specs.Inside.{Inside}
+use Rattle.sound.specs.Laws.{SizesLaws}
 use Rattle.sound.proofs.Positions.{predicate-found}
 use Rattle.sound.proofs.Bounds.{lower_≼, ≼_upper}
 use Rattle.sound.proofs.PredicateLimits.{predicate-limits}
 use Rattle.sound.proofs.TypeLimits.{type-limits}
 use Rattle.sound.proofs.Small.{population-small}
-
--- What the sizes `x` of a population are to the rounds
-pub record SizesLaws (d : Diagram) (x : List ℕ) : Type 0 where
-  -- They are between the lower and the starting upper bounds, and satisfy every limit
-  pub above : lower d ≼ x
-  pub solution : Solution (limits d) (upper d) x
-  -- No round brings an upper bound below them
-  pub rounds : (n : ℕ) → x ≼ upper_after_rounds d n
-  -- Rounds from any bounds that they are between do not end unsatisfiable, and where they end at a fixpoint it is above them
-  pub satisfiable : {low high : List ℕ} → Inside d low high → low ≼ x → x ≼ high → {s n : ℕ} → ¬ (verdict_from d low high ≡ unsatisfiable s n)
-  pub under_fixpoint : {low high : List ℕ} → Inside d low high → x ≼ high → {n : ℕ} {c : List ℕ} → verdict_from d low high ≡ fixpoint n c → x ≼ c
 
 module _ (d : Diagram) (o : Population) (form : WellFormed d) (shaped : Shaped d o) (meets : Meets d o) where
   limits-satisfied : Satisfies (limits d) (sizes d o)

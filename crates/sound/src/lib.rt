@@ -1,5 +1,5 @@
 // The rounds are sound: the sizes of every valid population of a well-formed diagram are a solution
 // of its limits, so that no round brings an upper bound below them. The statements stand in
-// proofs/Laws. No code.
+// specs/Laws. No code.
 
 #![tactic(auto)]

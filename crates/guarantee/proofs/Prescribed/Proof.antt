@@ -23,7 +23,8 @@ use Rattle.orm.proofs.Laws.Rounds.{inside-laws}
 use Rattle.orm.specs.Inside.{Inside}
 use Rattle.reading.specs.Laws.{table-accepted-iff}
 use Rattle.sound.proofs.Laws.{valid-laws}
-use Rattle.guarantee.proofs.Inside.{Fits, NoneFits, settled-greatest, some-settled}
+use Rattle.guarantee.specs.Inside.{Fits, NoneFits}
+use Rattle.guarantee.proofs.Inside.{settled-greatest, some-settled}
 use Rattle.guarantee.proofs.Ends.{settled-unsatisfiable, refuses-by, refuses-only, writes-made}
 use Rattle.guarantee.specs.Guarantee.{Populated}
 use Rattle.guarantee.proofs.Guarantee.{fault-of-form}

@@ -5,7 +5,8 @@ use Rattle.std.proofs.Common.{sym, ap, ◌∙◌, arith, length-append}
 use Rattle.std.proofs.Math.Logic.Iff
 use Rattle.std.proofs.Math.Seq.{take-append_seam}
 use Rattle.fixpoint.specs.Limits.{any_lowers}
-use Rattle.fixpoint.proofs.Laws.{AnyOrderLaws, any_order-laws}
+use Rattle.fixpoint.specs.Laws.{AnyOrderLaws}
+use Rattle.fixpoint.proofs.Laws.{any_order-laws}
 use Rattle.fixpoint.proofs.Laws.AnyOrder.{step_≼}
 use Rattle.orm.specs.Diagram.{Diagram}
 use Rattle.orm.specs.Text.{table_line}

@@ -1,9 +1,8 @@
 -- The marked cases P1 to P11 of document 01 ('Marked P') as one list of inputs with their outcomes, and the one theorem that they hold.
 use Rattle.std.specs.Prelude.{ℕ, ◌≡◌, refl}
 use Prim.Native.String.{String}
-use mathlib.Core.List.{List, [], ◌∷◌, ◌++◌, map, flat_map}
+use mathlib.Core.List.{List, [], ◌∷◌, map, flat_map}
 use Rattle.pairing.specs.Pairing.{tuples}
-use Rattle.orm.specs.Text.{bytes}
 use Rattle.orm.specs.Outcome.{Outcome, refused, accepted, ◌>>=◌, written}
 use Rattle.orm.specs.Calls.{read_call, populate_call}
 use Rattle.orm.specs.Program.{program}

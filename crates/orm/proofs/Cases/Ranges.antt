@@ -1,16 +1,15 @@
 -- The ranges of all fields; and worked examples of form: on each line what is out of range, before what else is wrong with it; and
 -- the largest diagrams.
-use Rattle.std.specs.Prelude.{ℕ, suc, ◌≡◌, refl, replicate}
+use Rattle.std.specs.Prelude.{ℕ, ◌≡◌, refl, replicate}
 use Prim.Native.String.{String}
 use mathlib.Core.List.{List, [], ◌∷◌, ◌++◌, map, flatten}
 use Rattle.orm.specs.Text.{table_line}
-use Rattle.orm.specs.Diagram.{Totals, totals, LineKind, diagram_line, types_line, type_line, preds_line, pred_line, role_line, limited_role_line, freq_line, end_line}
-use Rattle.orm.specs.Form.{Range, ◌to◌, unlimited, ranges}
+use Rattle.orm.specs.Diagram.{Totals, totals}
 use Rattle.orm.specs.Outcome.{Outcome, refused, accepted, ◌>>=◌}
 use Rattle.orm.specs.Calls.{diagram_in, read_call}
 use Rattle.orm.proofs.Cases.All.{everything}
 use Rattle.orm.specs.Sample.{text}
-use Rattle.orm.specs.Ranges.{Field, field, fields_from, ranged_fields, document_ranges}
+use Rattle.orm.specs.Ranges.{fields_from, ranged_fields, document_ranges}
 
 pub ranged-fields : ranged_fields ≡ document_ranges
 unfolding everything ranged_fields fields_from

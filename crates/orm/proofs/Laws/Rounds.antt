@@ -2,8 +2,8 @@
 use Rattle.std.specs.Prelude.{ℕ, ◌≤◌, ◌≡◌, List}
 use Rattle.std.proofs.Common.{sym, ◌∙◌, arith}
 use Rattle.fixpoint.specs.Limits.{unsatisfiable, fixpoint}
-use Rattle.fixpoint.specs.Notions.{◌≼◌}
-use Rattle.fixpoint.proofs.Laws.{RunLaws, run-laws}
+use Rattle.fixpoint.specs.Laws.{RunLaws}
+use Rattle.fixpoint.proofs.Laws.{run-laws}
 use Rattle.fixpoint.proofs.Laws.Order.{≼_refl}
 use Rattle.orm.specs.Diagram.{Diagram}
 use Rattle.orm.specs.Sets.{lower, upper, limits, most_rounds, verdict, verdict_from}

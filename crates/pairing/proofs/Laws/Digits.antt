@@ -8,12 +8,8 @@ use Rattle.counting.specs.Totals.{product_over}
 use Rattle.counting.specs.Terms.{Each}
 use Rattle.counting.proofs.Laws.Members.{each-head, each_tail}
 use Rattle.pairing.specs.Pairing.{left_of, right_of}
-use Rattle.pairing.proofs.Laws.Walks.{Walk}
+use Rattle.pairing.specs.Notions.{Walk, product}
 use Rattle.pairing.proofs.Laws.Pair.{pair_inj, right_of-walk}
-
--- The product of the numbers in a list
-abbrev pub product : List ℕ → ℕ
-product ts = product_over (λ t. t) ts
 
 unfoldable pub digit : ℕ → ℕ → ℕ → ℕ
 digit p t i = right_of p t (i % (p * t))

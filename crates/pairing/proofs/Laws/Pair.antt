@@ -6,7 +6,7 @@ use Rattle.std.proofs.Math.Arith.{digits_div}
 use Rattle.pairing.specs.Pairing.{gcd, lcm, left_of, right_of}
 use Rattle.pairing.proofs.Laws.Gcd.{gcd_is_gcd, lcm_is_lcm, gcd_mul_lcm, lcm-pos}
 use Rattle.pairing.proofs.Laws.Mod.{mod_eq_of_dvd, mod_eq_lcm, add-right_mod, add-right_mod_cancel}
-use Rattle.pairing.proofs.Laws.Walks.{Walk}
+use Rattle.pairing.specs.Notions.{Walk}
 
 eq_of_mod_div : (n i j : ℕ) → i % n ≡ j % n → i / n ≡ j / n → i ≡ j
 eq_of_mod_div n i j p q = cc (mod-add-div i n, mod-add-div j n)

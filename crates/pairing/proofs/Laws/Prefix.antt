@@ -11,7 +11,8 @@ use Rattle.counting.specs.Terms.{Each}
 use Rattle.counting.proofs.Laws.Members.{each-head, each_tail}
 use Rattle.pairing.specs.Pairing.{Tuples, single, paired_with, paired_with_all, tuples, left_of}
 use Rattle.pairing.proofs.Laws.Pair.{right_of-below-left, right_of-below-right}
-use Rattle.pairing.proofs.Laws.Digits.{product, digit, digits, digit-below, digit_mod}
+use Rattle.pairing.specs.Notions.{product}
+use Rattle.pairing.proofs.Laws.Digits.{digit, digits, digit-below, digit_mod}
 
 -- `r` has the first rows of `row`: as many as wanted, but at most `p`
 pub record Starts (want p : ℕ) (r : Tuples) (row : ℕ → List ℕ) : Type 0 where

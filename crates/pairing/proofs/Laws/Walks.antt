@@ -1,26 +1,13 @@
 -- Functions that walk round the numbers below `t` take equally many indices to each of them.
-use Prim.Native.Nat.{ℕ, zero, suc, ◌+◌, ◌*◌, ◌-◌, ◌/◌, ◌%◌, ◌≤◌, ◌<◌}
+use Prim.Native.Nat.{ℕ, zero, suc, ◌+◌, ◌*◌, ◌-◌, ◌/◌, ◌%◌, ◌<◌}
 use Rattle.std.specs.Prelude.{◌≡◌}
 use Rattle.std.proofs.Common.{sym, ap, ◌∙◌, subst, suc-mul, div-mul-le_self, div-add-mod', mod-lt, mod-eq_of_lt, add-one, arith, eq-eqb, ne_eqb}
 use Rattle.std.proofs.Math.Nat.{zero-mul, lt-div-mul-add, mod-add-mod, add-mod-mod, add-mod_right}
 use Rattle.std.proofs.Math.Dec.{eqb}
 use Rattle.counting.specs.Totals.{count_below}
 use Rattle.counting.proofs.Laws.Count.{count_add, count_mono, count_ext, Once, count-once}
+use Rattle.pairing.specs.Notions.{hits, EvenShare, Walk}
 use Rattle.pairing.proofs.Laws.Mod.{add-right_mod_cancel}
-
--- How many of the indices below `n` the function takes to `y`
-abbrev pub hits : ℕ → (ℕ → ℕ) → ℕ → ℕ
-hits n f y = count_below (λ i. eqb y (f i)) n
-
--- `c` is one of `t` equal shares of `n`, rounded down or up
-pub record EvenShare (n t c : ℕ) : Type 0 where
-  pub at_least : n / t ≤ c
-  pub at_most : c ≤ (n + t - 1) / t
-
--- Step by step round the numbers below `t`, with a new start at each multiple of `t`
-pub record Walk (t : ℕ) (f : ℕ → ℕ) : Type 0 where
-  pub start : ℕ → ℕ
-  pub step : (q i : ℕ) → i < t → f (q * t + i) ≡ (i + start q) % t
 
 module _ (t : ℕ) (f : ℕ → ℕ) (y : ℕ) (round : (q : ℕ) → hits t (λ i. f (q * t + i)) y ≡ 1) where
   count-rounds : (q : ℕ) → hits (q * t) f y ≡ q

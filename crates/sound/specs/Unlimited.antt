@@ -1,4 +1,4 @@
--- In `diagram=1` every role has the limits 1 and 4096, so that K6 says more than K11.
+-- In `diagram=1` K11 asks no more than K6: a role has at least one member and at most 4096, as its predicate has rows.
 use Rattle.std.specs.Prelude.{◌≡◌}
 use Rattle.orm.specs.Diagram.{Diagram}
 use Rattle.orm.specs.Population.{Population}

@@ -9,12 +9,12 @@ use Rattle.orm.specs.Sets.{Placed, placed}
 use Rattle.orm.specs.Average.{PlacedGroup, groups_of_placed, placed_groups, group_numbered}
 use Rattle.orm.proofs.Laws.Average.{among-groups, past-groups, below_all}
 use Rattle.table.specs.Positions.{pred_count, diagram_of}
-use Rattle.table.specs.Cursors.{placed_at, next_cursor, first_cursor, placed_left}
-use Rattle.table.specs.Laws.Cursors.{placed-start, placed-none, placed-more}
+use Rattle.table.specs.Cursors.{placed_at, next_cursor, first_cursor, placed_left, Reach}
+use Rattle.table.specs.Laws.Cursors.{placed-start, placed-none, placed-more, reach-more}
 use Rattle.table.specs.Laws.Walks.{group-count}
 use Rattle.table.specs.declared.Cursor.{Cursor}
 use Rattle.averages.specs.Owner.{owner_of, predicate_of}
-use Rattle.averages.specs.declared.owner.Owner.TheVariants.{Absent, Predicate}
+use Rattle.std.specs.Prelude.{Some, None}
 
 -- A group with the number is one of the `n` predicates' from the cursor on
 pub record Searching (t : List ℕ) (number : ℕ) (x : Cursor) (n : ℕ) : Type 0 where
@@ -25,7 +25,7 @@ abbrev wanted : List ℕ → ℕ → Option ℕ
 wanted t number = predicate_of (group_numbered number (placed_groups (diagram_of t)))
 
 module _ (t : List ℕ) (number : ℕ) {x : Cursor} where
-  pub search_below : x ≡ first_cursor t → number ≤ x.groups → owner_of Absent ≡ wanted t number
+  pub search_below : x ≡ first_cursor t → number ≤ x.groups → owner_of None ≡ wanted t number
   unfolding placed_groups placed
   search_below e h = sym (ap predicate_of (below_all number _ _ _ (diagram_of t).preds (rw e at h)))
 
@@ -35,7 +35,7 @@ module _ (t : List ℕ) (number : ℕ) {x : Cursor} where
       record { ahead = ap (λ (ps : List Placed). group_numbered number (flat_map groups_of_placed ps)) (sym (placed-start t e en)); past = h }
 
   module _ {n : ℕ} (s : Searching t number x n) where
-    pub search_none : n ≤ 0 → owner_of Absent ≡ wanted t number
+    search_none : n ≤ 0 → owner_of None ≡ wanted t number
     unfolding flat_map group_numbered
     search_none h = sym (ap predicate_of (s.ahead ∙ ap (λ (ps : List Placed). group_numbered number (flat_map groups_of_placed ps)) (placed-none t x n h)))
 
@@ -51,11 +51,30 @@ module _ (t : List ℕ) (number : ℕ) {x : Cursor} where
       unfolding placed_at
       last = rw e (ap (x.groups +◌) (group-count (drop x.at t)))
 
-      pub search_found : number ≤ y.groups → owner_of (Predicate x.own) ≡ wanted t number
+      search_found : number ≤ y.groups → owner_of (Some x.own) ≡ wanted t number
       unfolding placed_at
       search_found l =
           let (g, f, p) = among-groups number (placed_at t x) rest s.past (omega (arith, last)) in
           ap some (sym p) ∙ ap predicate_of (sym (here ∙ f))
 
-      pub search_more : y.groups < number → Searching t number y (n - 1)
+      search_more : y.groups < number → Searching t number y (n - 1)
       search_more l = record { ahead = here ∙ past-groups number (placed_at t x) rest (λ b. omega (arith, last, b.1)); past = l }
+
+  -- with the predicates that are passed counted
+  module _ {i : ℕ} (s : Searching t number x (pred_count t - i)) where
+    pub search_over : pred_count t ≤ i → owner_of None ≡ wanted t number
+    search_over h = search_none s (omega arith)
+
+    module _ {y : Cursor} (h : i < pred_count t) (e : y ≡ next_cursor t x) where
+      pub search_here : number ≤ y.groups → owner_of (Some x.own) ≡ wanted t number
+      search_here l = search_found s (omega arith) e l
+
+      pub search_on : y.groups < number → Searching t number y (pred_count t - (i + 1))
+      search_on l =
+          let one : pred_count t - i - 1 ≡ pred_count t - (i + 1) = omega arith in
+          rw one at (search_more s (omega arith) e l)
+
+      pub reach_on : Reach t x (pred_count t - i) → Reach t y (pred_count t - (i + 1))
+      reach_on r =
+          let one : pred_count t - i - 1 ≡ pred_count t - (i + 1) = omega arith in
+          rw one at (reach-more t x (pred_count t - i) r (omega arith) e)

@@ -5,31 +5,22 @@ ghost use Rattle.orm.specs.Average.{placed_groups, group_numbered};
 ghost use Rattle.table.specs.Positions.{diagram_of, Walkable};
 ghost use Rattle.averages.specs.Owner.{owner_of, predicate_of};
 
-// The index of the predicate's set, or no group has the number.
-#[derive(Clone, Copy)]
-pub enum Owner {
-    Absent,
-    Predicate { own: u32 },
-}
-
-// In a table with so many roles.
-pub fn find(t: &[u32], roles: u32, number: u32) -> Owner
+// The index of the predicate's set, in a table with so many roles; or no group has the number.
+pub fn find(t: &[u32], roles: u32, number: u32) -> Option<u32>
     requires walkable { Walkable t.now }
     requires roles_value { roles ≡ length (all_roles (diagram_of t.now)) }
     ensures { owner_of result ≡ predicate_of (group_numbered number (placed_groups (diagram_of t.now))) }
 {
     let mut x = table::first_cursor(t, roles);
-    let mut left = table::pred_count(t);
     if number <= x.groups {
-        return Owner::Absent;
+        return None;
     }
-    while 0 < left {
+    for _ in 0..table::pred_count(t) {
         let next = table::next_cursor(t, x);
         if number <= next.groups {
-            return Owner::Predicate { own: x.own };
+            return Some(x.own);
         }
         x = next;
-        left -= 1;
     }
-    Owner::Absent
+    None
 }

@@ -1,12 +1,10 @@
 -- A population read off cells by positions, for every list of cells: what is not there is missing. Cuts.antt shows that cells that can be cut
 -- give the population that cutting gives.
 -- Code that walks cells stands at a position `at`; what it reads there is a definition of the list `drop at s`.
-use Rattle.std.specs.Prelude.{ℕ, suc, ◌+◌, ◌*◌, List, [], ◌∷◌, ◌++◌, map, length, get_or, take, drop}
+use Rattle.std.specs.Prelude.{ℕ, suc, ◌+◌, ◌*◌, List, [], ◌∷◌, ◌++◌, Option, Some, None, map, length, get_or, take, drop}
 use Rattle.orm.specs.Diagram.{ObjectType, Predicate, Diagram}
 use Rattle.orm.specs.Population.{Population, rows_of}
 use Rattle.orm.specs.Outcome.{Outcome, refused, accepted}
-use Rattle.blocks.specs.declared.Extent.{Extent}
-use Rattle.blocks.specs.declared.Extent.TheVariants.{Whole, Broken}
 
 -- How many cells the block that starts here takes, with entries of `width` cells
 abbrev pub block_length : ℕ → List ℕ → ℕ
@@ -63,6 +61,6 @@ starts_of s [] at = at ∷ []
 starts_of s (w ∷ ws) at = at ∷ starts_of s ws (at + block_length w (drop at s))
 
 -- Document 01's number and place of cells that can't be cut
-abbrev pub extent_of : Population → Extent → Outcome Population
-extent_of o Whole = accepted o
-extent_of o (Broken at) = refused 9 at 0
+abbrev pub extent_of : Population → Option ℕ → Outcome Population
+extent_of o None = accepted o
+extent_of o (Some at) = refused 9 at 0

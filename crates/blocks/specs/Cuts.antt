@@ -11,7 +11,7 @@ use Rattle.orm.specs.Population.{Block, block, rows_of, type_block, pred_block, 
 use Rattle.orm.proofs.Laws.Readers.{bind_read, bind_rejected, exactly_append}
 use Rattle.orm.specs.Outcome.{outcome_of}
 use Rattle.orm.specs.Calls.{population_in}
-use Rattle.blocks.specs.declared.Extent.TheVariants.{Whole, Broken}
+use Rattle.std.specs.Prelude.{Some, None}
 use Rattle.blocks.specs.Blocks.{block_length, end_of, contents, type_width, pred_width, behind_types, population_at, block_widths, extent_of}
 
 -- ---- one block
@@ -125,14 +125,14 @@ module _ (d : Diagram) (s : List ℕ) {to : ℕ} (e : to ≡ end_of s (block_wid
       (λ p at. block_reads s (pred_width p) at (λ b. rows_of b.size (pred_width p) b.content) (rows_of-take _ _ _)) d.preds _ h)
       (omega arith) (reads_here s refl))
 
-  pub cells-surplus : to < length s → population_in d s ≡ extent_of (population_at d s) (Broken to)
+  pub cells-surplus : to < length s → population_in d s ≡ extent_of (population_at d s) (Some to)
   unfolding population_in outcome_of at_end
   cells-surplus l = ap outcome_of (rw (drop-cons s to 0 l, at_end) at (all_read.whole (omega arith)))
 
-  pub cells-short : length s < to → population_in d s ≡ extent_of (population_at d s) (Broken (length s))
+  pub cells-short : length s < to → population_in d s ≡ extent_of (population_at d s) (Some (length s))
   unfolding population_in outcome_of
   cells-short l = ap outcome_of (all_read.short l)
 
-  pub cells_whole : length s ≤ to → to ≤ length s → population_in d s ≡ extent_of (population_at d s) Whole
+  pub cells_whole : length s ≤ to → to ≤ length s → population_in d s ≡ extent_of (population_at d s) None
   unfolding population_in outcome_of at_end
   cells_whole l k = ap outcome_of (rw (drop_of_length-le s l, at_end) at (all_read.whole k))

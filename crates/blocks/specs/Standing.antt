@@ -1,5 +1,5 @@
 -- Predicates of a valid table whose blocks are there whole, by positions.
-use Rattle.std.specs.Prelude.{ℕ, ◌+◌, ◌*◌, ◌-◌, ◌≤◌, ◌<◌, ◌≡◌, refl, List, length, get_or, drop}
+use Rattle.std.specs.Prelude.{ℕ, ◌+◌, ◌*◌, ◌-◌, ◌≤◌, ◌<◌, min, ◌≡◌, refl, List, length, get_or, drop}
 use Rattle.std.proofs.Common.{arith, ◌∙◌, length-drop}
 use Rattle.counting.specs.Terms.{Each, Each2}
 use Rattle.counting.proofs.Laws.Members.{each-head, each_tail}
@@ -9,11 +9,10 @@ use Rattle.orm.proofs.Laws.Cells.{population_in-iff}
 use Rattle.table.specs.Positions.{pred_of, pred_length, preds_in, type_count, pred_count, first_pred_at, diagram_of}
 use Rattle.table.specs.Laws.Walks.{preds_more}
 use Rattle.table.specs.Laws.Valid.{valid-walkable}
-use Rattle.columns.specs.declared.Column.{Column}
-use Rattle.columns.specs.Reach.{Reached, wide_room}
+use Rattle.columns.specs.Reached.{Reached}
+use Rattle.columns.specs.Reach.{wide_room}
 use Rattle.blocks.specs.Blocks.{block_length, contents, pred_width, rows_at, rows_in, population_at}
 use Rattle.blocks.specs.Starts.{Populated, Located, Pending, pending-start, pending-here, pending-wide, pending-more, block-next, starts-preds}
-use Rattle.blocks.specs.Places.{ColumnHere}
 
 -- The predicate at `pred` of the table is there and has few roles, and its rows at `at` of the cells have a cell for each
 pub record PredHere (t s : List ℕ) (pred at : ℕ) : Type 0 where
@@ -30,12 +29,12 @@ pub record Standing (t s starts : List ℕ) (pred k n : ℕ) : Type 0 where
 
 -- ---- the columns of such a predicate are there
 
-pub column-reached : (t s : List ℕ) (pred at : ℕ) (c : Column) {w : ℕ} → PredHere t s pred at → w ≡ pred_width (pred_of (drop pred t))
-    → ColumnHere s at w c → Reached s c
-column-reached t s pred at c {w} here e h =
+pub column-reached : (t s : List ℕ) (pred at j first start : ℕ) {w i : ℕ} → PredHere t s pred at → w ≡ pred_width (pred_of (drop pred t)) → j < w
+    → first ≡ min (at + 1) (length s) → start ≡ min (first + j) (length s) → i ≡ get_or (drop at s) 0 0 → Reached s start w i
+column-reached t s pred at j first start {w} {i} here e h f g q =
     let few : w ≤ 6 = rw e here.few in
     let room : get_or (drop at s) 0 0 * pred_width (pred_of (drop pred t)) ≤ length (drop 1 (drop at s)) = wide_room _ _ _ here.wide in
-    let size : c.count * c.step ≡ get_or (drop at s) 0 0 * pred_width (pred_of (drop pred t)) = rw (h.count, h.step, e) in
+    let size : i * w ≡ get_or (drop at s) 0 0 * pred_width (pred_of (drop pred t)) = rw (q, e) in
     record { apart = omega arith; narrow = omega arith; reach = omega (arith, length-drop 1 (drop at s), length-drop at s) }
 
 -- ---- the predicates left have few roles and whole rows
@@ -59,16 +58,16 @@ module _ (t s starts : List ℕ) (pred k n : ℕ) (st : Standing t s starts pred
       ≡ drop (block_length (pred_width (pred_of (drop pred t))) (drop (get_or starts k 0) s)) (drop (get_or starts k 0) s)
   standing-next = block-next st.located k _ (pending-wide st.pending h refl)
 
-  pub standing-more : (next : ℕ) → next ≡ pred + pred_length (drop pred t) → Standing t s starts next (k + 1) (n - 1)
+  pub standing-more : {next k' n' : ℕ} → next ≡ pred + pred_length (drop pred t) → k' ≡ k + 1 → n' ≡ n - 1 → Standing t s starts next k' n'
   unfolding contents
-  standing-more next q =
+  standing-more q e f =
       let wide = rw (preds_more t pred n h q) at st.wide in
-      record {
+      rw (e, f) (record {
         located = st.located;
         pending = pending-more st.pending h q;
         few = each_tail (λ (p : Predicate). pred_width p ≤ 6) (rw (preds_more t pred n h q) at st.few);
         wide = rw standing-next wide.1;
-      }
+      })
 
 -- `m` is the number of types, and `k` the same as an index
 pub standing-start : (t s starts : List ℕ) (pred k n : ℕ) {m : ℕ} → Populated t s → Located t s starts → pred ≡ first_pred_at t → n ≡ pred_count t

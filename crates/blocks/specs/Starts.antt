@@ -19,8 +19,7 @@ use Rattle.table.specs.Positions.{pred_of, pred_length, preds_in, type_count, pr
 use Rattle.table.specs.Cursors.{Ahead}
 use Rattle.table.specs.Valid.{Valid}
 use Rattle.table.specs.Laws.Walks.{each-length, preds-length, preds_more, preds-none, ahead-start, ahead-here, ahead_more}
-use Rattle.blocks.specs.declared.Extent.{Extent}
-use Rattle.blocks.specs.declared.Extent.TheVariants.{Whole}
+use Rattle.std.specs.Prelude.{Option, None}
 use Rattle.blocks.specs.Blocks.{block_length, most_cells, members_at, rows_at, end_of, contents, type_width, pred_width, behind_types, population_at}
 use Rattle.blocks.specs.Blocks.{extent_of, block_widths, starts_of}
 use Rattle.blocks.specs.Cuts.{end_append}
@@ -53,10 +52,10 @@ widths-count : (t : List ℕ) → length (widths_in t) ≡ type_count t + pred_c
 unfolding block_widths
 widths-count t = simp (length-append, length-map, types-count t, preds-count t)
 
--- `left` types are left from that with number `i` on
-pub type-wide : (t : List ℕ) (i left : ℕ) → i + left ≡ type_count t → 0 < left → At 1 (widths_in t) i
+-- the type with number `i`
+pub type_wide : (t : List ℕ) (i : ℕ) {n : ℕ} → n ≡ type_count t → i < n → At 1 (widths_in t) i
 unfolding block_widths
-type-wide t i left e h = at_append_left _ (at_map type_width (below_at (diagram_of t).types i (omega (arith, types-count t))).1)
+type_wide t i e h = at_append_left _ (at_map type_width (below_at (diagram_of t).types i (omega (arith, types-count t))).1)
 
 -- ---- the predicates left
 
@@ -93,6 +92,17 @@ module _ {t : List ℕ} {pred k n : ℕ} (p : Pending t pred k n) (h : 0 < n) wh
   pending-more {next} q =
       record { ahead = ahead_more t pred n p.ahead h q; widths = sym (drop-drop 1 k (widths_in t)) ∙ ap (drop 1) (widths-here next q) }
 
+-- the same, up to block number `end`
+module _ {t : List ℕ} {pred k : ℕ} (end : ℕ) (p : Pending t pred k (end - k)) (h : k < end) where
+  pub next-inside : pred + pred_length (drop pred t) ≤ length t
+  next-inside = pending-here p (omega arith)
+
+  pub next-wide : {w : ℕ} → w ≡ pred_width (pred_of (drop pred t)) → At w (widths_in t) k
+  next-wide = pending-wide p (omega arith)
+
+  pub pending-next : {next : ℕ} → next ≡ pred + pred_length (drop pred t) → Pending t next (k + 1) (end - (k + 1))
+  pending-next q = let e : end - (k + 1) ≡ end - k - 1 = omega arith in rw e (pending-more p (omega arith) q)
+
 -- ---- the walk
 
 -- A walk from block `k₀` at `at₀` has come to block `k` at `at`: the starts left come to the same list, and the end is the same
@@ -120,8 +130,8 @@ module _ {t s starts₀ : List ℕ} {k₀ at₀ : ℕ} {starts : List ℕ} {k at
       }
 
   -- those of all types
-  pub walk-types : (left : ℕ) → k + left ≡ type_count t → left ≤ 0 → Walk t s starts₀ k₀ at₀ starts (type_count t) at
-  walk-types left e h = let q : type_count t ≡ k = omega arith in rw q i
+  pub walk-types : {n : ℕ} → n ≡ type_count t → n ≤ k → k ≤ n → Walk t s starts₀ k₀ at₀ starts (type_count t) at
+  walk-types e h l = let q : type_count t ≡ k = omega arith in rw q i
 
   -- another walk, from there
   pub walk_on : {m n : ℕ} → m ≡ k → n ≡ m → Walk t s starts k at starts n at
@@ -159,7 +169,7 @@ module _ (s : List ℕ) where
   length-starts [] at = refl
   length-starts (w ∷ ws) at = ap suc (length-starts ws (at + block_length w (drop at s)))
 
-module _ (t s : List ℕ) {r : Extent} (v : Valid t) (p : population_in (diagram_of t) s ≡ extent_of (population_at (diagram_of t) s) r) (q : r ≡ Whole) where
+module _ (t s : List ℕ) {r : Option ℕ} (v : Valid t) (p : population_in (diagram_of t) s ≡ extent_of (population_at (diagram_of t) s) r) (q : r ≡ None) where
   pub populated : Populated t s
   populated = record { valid = v; whole = p ∙ ap (extent_of (population_at (diagram_of t) s)) q }
 
@@ -193,7 +203,7 @@ module _ {t s starts : List ℕ} (l : Located t s starts) where
       rw (drop-drop, add-one, l.each (suc i) h, take-suc (widths_in t) i 0 h, end_append, at-get_or 0 m, l.each i (omega arith))
 
   pub type-next : (i : ℕ) → i < type_count t → drop (get_or starts (i + 1) 0) s ≡ drop (block_length 1 (drop (get_or starts i 0) s)) (drop (get_or starts i 0) s)
-  type-next i h = block-next i 1 (type-wide t i (type_count t - i) (omega arith) (omega arith))
+  type-next i h = block-next i 1 (type_wide t i refl h)
 
   -- the block of the type with a number
   pub type-block : (i : ℕ) → i < length (diagram_of t).types → members_at (drop (get_or starts i 0) s) ≡ get_or (population_at (diagram_of t) s).types i []

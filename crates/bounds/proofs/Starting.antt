@@ -8,11 +8,14 @@ use lib.Seq.{set-get_or}
 use Rattle.fixpoint.specs.Limits.{Limit, run}
 use Rattle.orm.specs.Calls.{settled_into}
 use Rattle.orm.specs.Prescribe.{raised_at, capped_at}
-use Rattle.rounds.specs.Answer.{Bounds, Scratch}
+use Rattle.lowering.specs.declared.Limits.{Limits}
+use Rattle.rounds.specs.Answer.{Bounds}
 use Rattle.bounds.specs.Start.{lower_by, upper_by, Starts, Narrowed}
 use Rattle.bounds.specs.Answer.{Answered, unchanged}
 use Rattle.bounds.specs.Laws.Starts.{length-lower-by, length-upper-by}
-use Rattle.bounds.specs.declared.Settlement.{Settlement}
+use Rattle.std.specs.Prelude.{Result}
+use Rattle.refusals.specs.declared.Refusal.{Refusal}
+use Rattle.bounds.specs.declared.Written.{Written}
 use Rattle.bounds.specs.declared.Start.{Start}
 use Rattle.bounds.specs.declared.Start.TheVariants.{Own, Kept}
 
@@ -51,23 +54,21 @@ module _ {x : Start} (low high : List ℕ) where
 
 -- ---- what the rounds ask of them
 
-module _ (x : Start) (low high : List ℕ) {xs : List ℕ} (b : Bounds xs (lower_by x low) (upper_by x high)) where
+module _ (x : Start) (low high : List ℕ) {l : Limits} (b : Bounds l (lower_by x low) (upper_by x high)) where
   pub starts-lower : Starts x (length high) → Starts x (length low)
   starts-lower h =
       let e : length high ≡ length low = sym (length-upper-by x high) ∙ sym b.paired ∙ length-lower-by x low in
       rw e at h
 
-  pub narrowed_bounds : {low' high' : List ℕ} → Narrowed x low high low' high' → Bounds xs low' high'
+  pub narrowed_bounds : {low' high' : List ℕ} → Narrowed x low high low' high' → Bounds l low' high'
   narrowed_bounds n = rw (n.lower_is, n.upper_is) b
 
-pub narrowed_scratch : {x : Start} {xs low high low' high' next changed links : List ℕ} → Narrowed x low high low' high'
-    → Scratch xs high next changed links → Scratch xs high' next changed links
-narrowed_scratch {x} {high = high} {high' = high'} n s =
-    let e : length high' ≡ length high = ap length n.upper_is ∙ length-upper-by x high in
-    record { next_room = e ∙ s.next_room; changed_room = omega (arith, s.changed_room); room = rw e s.room }
+-- as many as before
+pub narrowed_long : {x : Start} {low high low' high' : List ℕ} → Narrowed x low high low' high' → length high' ≡ length high
+narrowed_long {x} {high = high} n = ap length n.upper_is ∙ length-upper-by x high
 
 -- and the answer that they lead to
-pub narrowed_answered : (x : Start) (low high : List ℕ) {low' high' : List ℕ} (ls : List Limit) (before : List ℕ) {after : List ℕ} {a : Settlement}
+pub narrowed_answered : (x : Start) (low high : List ℕ) {low' high' : List ℕ} (ls : List Limit) (before : List ℕ) {after : List ℕ} {a : Result Written Refusal}
     → Narrowed x low high low' high' → Answered (settled_into 7 unchanged (run ls low' high') (length before)) a before after
     → Answered (settled_into 7 unchanged (run ls (lower_by x low) (upper_by x high)) (length before)) a before after
 narrowed_answered x low high ls before n h = rw (← n.lower_is, ← n.upper_is) h

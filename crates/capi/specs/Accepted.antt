@@ -1,6 +1,6 @@
 -- A check that accepts, by its four numbers: the sizes of the sets of the table's diagram stand at the front of the array. And a reading that does: the
 -- table stands there.
-use Rattle.std.specs.Prelude.{ℕ, ◌+◌, ◌≤◌, ◌<◌, ◌≡◌, List, [], ◌∷◌, length, get_or, drop}
+use Rattle.std.specs.Prelude.{ℕ, ◌+◌, ◌≤◌, ◌<◌, ◌≡◌, List, [], ◌∷◌, length, get_or, drop, Result, Ok, Err}
 use Rattle.std.proofs.Common.{arith, ap, ◌∙◌}
 use Rattle.std.proofs.Math.ListN.{get_or-append}
 use Rattle.counting.proofs.Laws.Index.{at-below}
@@ -13,11 +13,10 @@ use Rattle.grammar.specs.Fault.{number_of}
 use Rattle.grammar.specs.declared.Fault.{Fault}
 use Rattle.grammar.specs.declared.Fault.TheVariants.{Malformed, OutOfRange, Unknown, Disordered, Unnamed, Miscounted}
 use Rattle.reader.specs.Answer.{conversion_of}
-use Rattle.reader.specs.declared.Conversion.{Conversion}
-use Rattle.reader.specs.declared.Conversion.TheVariants as reads
 use Rattle.bounds.specs.Answer.{settlement_of}
-use Rattle.bounds.specs.declared.Settlement.{Settlement}
-use Rattle.bounds.specs.declared.Settlement.TheVariants.{Refused, Unsatisfiable, TooShort, Accepted}
+use Rattle.bounds.specs.declared.Written as bounds
+use Rattle.refusals.specs.declared.Refusal.{Refusal}
+use Rattle.refusals.specs.declared.Refusal.TheVariants as refusals
 use Rattle.populate.specs.Demand3.{TableOf, Making, Means, settled_sizes, Written, ReadMeans, TableRead}
 use Rattle.populate.specs.Tied.{table-accepted}
 use Rattle.capi.specs.Answers.{numbers, roundless}
@@ -40,23 +39,30 @@ pub told-written : {t four before after : List ℕ} {make : Making} → Told t m
 unfolding numbers
 told-written {t} {four} {before} {after} {make} told {rounds} {n} e = go told.answer told.numbered told.means
   where
-    go : (r : Settlement) → four ≡ numbers (settlement_of r) → Means t make r before after → Written t make n rounds before after
-    go (Refused fault line) q m = let z : number_of fault ≡ 0 = cc in absurd (omega (arith, faulty fault))
-    go (Unsatisfiable set round) q m = let z : ◌≡◌ {A = ℕ} 7 0 = cc in absurd (omega arith)
-    go (TooShort needed) q m = let z : ◌≡◌ {A = ℕ} 8 0 = cc in absurd (omega arith)
-    go (Accepted k made) q m =
-        let same_length : n ≡ k = cc in
-        let same-rounds : rounds ≡ made = cc in
+    go : (r : Result bounds.Written Refusal) → four ≡ numbers (settlement_of r) → Means t make r before after → Written t make n rounds before after
+    go (Err (refusals.Faulty fault line)) q m = let z : number_of fault ≡ 0 = cc in absurd (omega (arith, faulty fault))
+    go (Err (refusals.Emptied set round)) q m = let z : ◌≡◌ {A = ℕ} 7 0 = cc in absurd (omega arith)
+    go (Err (refusals.TooShort needed)) q m = let z : ◌≡◌ {A = ℕ} 8 0 = cc in absurd (omega arith)
+    go (Err (refusals.Cells at)) q m = absurd m
+    go (Err (refusals.NoSuch number)) q m = absurd m
+    go (Err (refusals.Impossible set round)) q m = absurd m
+    go (Ok w) q m =
+        let same_length : n ≡ w.length = cc in
+        let same-rounds : rounds ≡ w.rounds = cc in
         rw (same_length, same-rounds) m
 
 pub told-table : {text four before after : List ℕ} → ToldRead text four before after → {n : ℕ} → four ≡ 0 ∷ 0 ∷ 0 ∷ n ∷ [] → TableRead text n before after
 unfolding numbers
 told-table {text} {four} {before} {after} told {n} e = go told.answer told.numbered told.means
   where
-    go : (r : Conversion) → four ≡ numbers (roundless (conversion_of r)) → ReadMeans text r before after → TableRead text n before after
-    go (reads.Refused fault line) q m = let z : number_of fault ≡ 0 = cc in absurd (omega (arith, faulty fault))
-    go (reads.TooShort needed) q m = let z : ◌≡◌ {A = ℕ} 8 0 = cc in absurd (omega arith)
-    go (reads.Accepted k) q m = let same_length : n ≡ k = cc in rw same_length m
+    go : (r : Result ℕ Refusal) → four ≡ numbers (roundless (conversion_of r)) → ReadMeans text r before after → TableRead text n before after
+    go (Err (refusals.Faulty fault line)) q m = let z : number_of fault ≡ 0 = cc in absurd (omega (arith, faulty fault))
+    go (Err (refusals.TooShort needed)) q m = let z : ◌≡◌ {A = ℕ} 8 0 = cc in absurd (omega arith)
+    go (Err (refusals.Emptied set round)) q m = absurd m
+    go (Err (refusals.Cells at)) q m = absurd m
+    go (Err (refusals.NoSuch number)) q m = absurd m
+    go (Err (refusals.Impossible set round)) q m = absurd m
+    go (Ok k) q m = let same_length : n ≡ k = cc in rw same_length m
 
 -- The size of each set
 size-written : {t : List ℕ} {n rounds : ℕ} {before after : List ℕ} (w : Written t settled_sizes n rounds before after) {i : ℕ}

@@ -1,12 +1,13 @@
 -- A check or a populating that refuses with 7, by its four numbers: just where the table's diagram has no population.
-use Rattle.std.specs.Prelude.{ℕ, ◌≡◌, ◌↔◌, List, [], ◌∷◌}
+use Rattle.std.specs.Prelude.{ℕ, ◌≡◌, ◌↔◌, List, [], ◌∷◌, Result, Ok, Err}
 use Rattle.std.proofs.Common.{arith, subst}
 use Rattle.guarantee.specs.Guarantee.{NoPopulation, Populated}
 use Rattle.grammar.specs.Fault.{number_of}
 use Rattle.grammar.specs.Laws.Faults.{few-faults}
 use Rattle.bounds.specs.Answer.{settlement_of}
-use Rattle.bounds.specs.declared.Settlement.{Settlement}
-use Rattle.bounds.specs.declared.Settlement.TheVariants.{Refused, Unsatisfiable, TooShort, Accepted}
+use Rattle.bounds.specs.declared.Written as bounds
+use Rattle.refusals.specs.declared.Refusal.{Refusal}
+use Rattle.refusals.specs.declared.Refusal.TheVariants as refusals
 use Rattle.populate.specs.Demand3.{TableOf, Emptied, Making, Means}
 use Rattle.capi.specs.Answers.{numbers}
 use Rattle.capi.specs.Told.{Told}
@@ -18,14 +19,17 @@ told-emptied : {t four before after : List ℕ} {make : Making} → Told t make 
 unfolding numbers
 told-emptied {t} {four} {before} {after} {make} told {set} {round} e = go told.answer told.numbered told.means
   where
-    go : (r : Settlement) → four ≡ numbers (settlement_of r) → Means t make r before after → Emptied t set round before after
-    go (Refused fault line) q m = let z : number_of fault ≡ 7 = cc in absurd (omega (arith, few-faults fault))
-    go (Unsatisfiable s k) q m =
+    go : (r : Result bounds.Written Refusal) → four ≡ numbers (settlement_of r) → Means t make r before after → Emptied t set round before after
+    go (Err (refusals.Faulty fault line)) q m = let z : number_of fault ≡ 7 = cc in absurd (omega (arith, few-faults fault))
+    go (Err (refusals.Emptied s k)) q m =
         let same_set : set ≡ s = cc in
         let same-round : round ≡ k = cc in
         rw (same_set, same-round) m
-    go (TooShort needed) q m = let z : ◌≡◌ {A = ℕ} 8 7 = cc in absurd (omega arith)
-    go (Accepted n made) q m = let z : ◌≡◌ {A = ℕ} 0 7 = cc in absurd (omega arith)
+    go (Err (refusals.TooShort needed)) q m = let z : ◌≡◌ {A = ℕ} 8 7 = cc in absurd (omega arith)
+    go (Err (refusals.Cells at)) q m = absurd m
+    go (Err (refusals.NoSuch number)) q m = absurd m
+    go (Err (refusals.Impossible s k)) q m = absurd m
+    go (Ok w) q m = let z : ◌≡◌ {A = ℕ} 0 7 = cc in absurd (omega arith)
 
 pub emptied : {t four before after : List ℕ} {make : Making} (x : TableOf t) → Told t make four before after
     → ((set : ℕ) × (round : ℕ) × (four ≡ 7 ∷ set ∷ round ∷ 0 ∷ [])) ↔ NoPopulation x.diagram
@@ -38,9 +42,12 @@ emptied {t} {four} {before} {after} {make} x told = (
     populated : NoPopulation x.diagram → (y : TableOf t) → ¬ Populated t y.diagram
     populated none y p = subst NoPopulation (same-diagram x y) none _ p.cells_meet
 
-    go : NoPopulation x.diagram → (s : Settlement) → four ≡ numbers (settlement_of s) → Means t make s before after
+    go : NoPopulation x.diagram → (s : Result bounds.Written Refusal) → four ≡ numbers (settlement_of s) → Means t make s before after
         → (set : ℕ) × (round : ℕ) × (four ≡ 7 ∷ set ∷ round ∷ 0 ∷ [])
-    go none (Refused fault line) q m = absurd (m.0 x)
-    go none (Unsatisfiable set round) q m = (set, round, q)
-    go none (TooShort needed) q m = absurd (populated none m.of m.populated)
-    go none (Accepted n rounds) q m = absurd (populated none m.of m.populated)
+    go none (Err (refusals.Faulty fault line)) q m = absurd (m.0 x)
+    go none (Err (refusals.Emptied set round)) q m = (set, round, q)
+    go none (Err (refusals.TooShort needed)) q m = absurd (populated none m.of m.populated)
+    go none (Err (refusals.Cells at)) q m = absurd m
+    go none (Err (refusals.NoSuch number)) q m = absurd m
+    go none (Err (refusals.Impossible set round)) q m = absurd m
+    go none (Ok w) q m = absurd (populated none m.of m.populated)

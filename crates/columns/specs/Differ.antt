@@ -12,7 +12,7 @@ use Rattle.counting.proofs.Laws.Instances.{eqb_decides, same_decides}
 use Rattle.columns.specs.Single.{occurs, occurs-once, once-apart, no_repeats_of}
 use Rattle.orm.specs.Population.{rows_of}
 use Rattle.orm.proofs.Laws.Decided.{in_range_decides}
-use Rattle.columns.specs.declared.Column.{Column}
+use Rattle.columns.specs.declared.column.Column.{Column}
 use Rattle.columns.specs.declared.Rows.{Rows}
 use Rattle.columns.specs.Values.{spaced, values_in, keys_of, keys_in, occurring}
 
@@ -20,8 +20,8 @@ use Rattle.columns.specs.Values.{spaced, values_in, keys_of, keys_in, occurring}
 pub record Wide (w : ℕ) (rows : List (List ℕ)) : Type 0 where
   pub each : Each (λ (row : List ℕ). length row ≡ w) rows
 
-abbrev pub rows_held : List ℕ → Rows → List (List ℕ)
-rows_held s r = rows_of r.count r.width (drop r.start s)
+abbrev pub rows_held : Rows → List (List ℕ)
+rows_held r = rows_of r.count r.width (drop r.start r.cells.now)
 
 -- What each is mapped to occurs once, where the map tells them apart
 once-differ : {A : Type 0} {eq : A → A → Bool} → Decides eq → (f : A → List ℕ) (xs : List A) → InjectiveOn f xs
@@ -48,10 +48,10 @@ unfolding combination
 apart w js rows c h a b m n e =
     rows_agree w rows h.each a b m n (λ j l. map_agree (λ (k : ℕ). get_or a k 0) (λ (k : ℕ). get_or b k 0) e (c.each j l))
 
-pub rows-differ : (s : List ℕ) (r : Rows) (js : List ℕ) {b : Bool} → Covers r.width js → Wide r.width (rows_held s r)
-    → b ≡ occurring 1 1 (keys_in s r js) (keys_in s r js) → b ≡ all_differ same (rows_held s r)
+pub rows-differ : (r : Rows) (js : List ℕ) {b : Bool} → Covers r.width js → Wide r.width (rows_held r)
+    → b ≡ occurring 1 1 (keys_in r js) (keys_in r js) → b ≡ all_differ same (rows_held r)
 unfolding keys_of
-rows-differ s r js c h e = e ∙ once-differ same_decides (combination js) (rows_held s r) (apart r.width js (rows_held s r) c h)
+rows-differ r js c h e = e ∙ once-differ same_decides (combination js) (rows_held r) (apart r.width js (rows_held r) c h)
 
 -- ---- the values of a column
 
@@ -60,8 +60,8 @@ unfolding keys_of rows_of spaced combination
 keys_single zero w s h = refl
 keys_single (suc n) w s h = ap₂ {C = List (List ℕ)} (λ x y. (x ∷ []) ∷ y) (get_or-take w s 0 0 h) (keys_single n w (drop w s) h)
 
-pub values-differ : (s : List ℕ) (c : Column) {b : Bool} → 0 < c.step
-    → b ≡ occurring 1 1 (keys_of c.count c.step (0 ∷ []) (drop c.start s)) (keys_of c.count c.step (0 ∷ []) (drop c.start s))
-    → b ≡ all_differ eqb (values_in s c)
-values-differ s c h e =
-    e ∙ rw (keys_single c.count c.step (drop c.start s) h) (once-differ eqb_decides (λ (v : ℕ). v ∷ []) (values_in s c) (λ a b m n q. cc))
+pub values-differ : (c : Column) (r : Rows) {b : Bool} → r.cells.now ≡ c.cells.now → r.start ≡ c.start → r.width ≡ c.step → r.count ≡ c.count
+    → b ≡ occurring 1 1 (keys_in r (0 ∷ [])) (keys_in r (0 ∷ [])) → b ≡ all_differ eqb (values_in c)
+values-differ c r s p q t e =
+    e ∙ rw (s, p, q, t, keys_single c.count c.step (drop c.start c.cells.now) c.reached.apart)
+    (once-differ eqb_decides (λ (v : ℕ). v ∷ []) (values_in c) (λ a b m n q. cc))

@@ -1,3 +1,5 @@
+pub mod Reached
+pub mod Keyed
 pub mod Values
 pub mod Walks
 pub mod Differ

@@ -7,19 +7,15 @@ use Rattle.orm.specs.Populate.{population}
 use Rattle.orm.specs.Outcome.{Outcome, ◌>>=◌, fitted, accepted}
 use Rattle.orm.specs.Calls.{diagram_in, sizes_of}
 use Rattle.orm.specs.Program.{report, output}
-use Rattle.grammar.specs.Fault.{number_of}
-use Rattle.bounds.specs.declared.Settlement.{Settlement}
-use Rattle.bounds.specs.declared.Settlement.TheVariants.{Refused, Unsatisfiable, TooShort, Accepted}
+use Rattle.refusals.specs.Refusal.{number_of, place_of, round_of}
+use Rattle.refusals.specs.declared.Refusal.{Refusal}
 
 unfoldable pub refusal_line : ℕ → ℕ → ℕ → List ℕ
 refusal_line number place round = line_text "refused" (number ∷ place ∷ round ∷ [])
 
--- The refusal that check or populating ends with
-unfoldable pub settlement_line : Settlement → List ℕ
-settlement_line (Refused f line) = refusal_line (number_of f) line 0
-settlement_line (Unsatisfiable set round) = refusal_line 7 set round
-settlement_line (TooShort needed) = refusal_line 8 needed 0
-settlement_line (Accepted length rounds) = []
+-- The line of a refusal
+abbrev pub refused_as : Refusal → List ℕ
+refused_as r = refusal_line (number_of r) (place_of r) (round_of r)
 
 -- Behind the reading
 unfoldable pub report_on : Diagram → Outcome (List ℕ)

@@ -1,3 +1,2 @@
-pub mod Taking
-pub mod Linking
+pub mod AllLinked
 pub mod Walks

@@ -3,59 +3,55 @@
 // specs/Passes, the law that this is document 01's answer in specs/Laws/Answered.
 #![tactic(auto)]
 
-ghost use Rattle.std.specs.Prelude.{◌≡◌, ◌&&◌, ◌<◌, length};
+ghost use Rattle.std.specs.Prelude.{◌≡◌, ◌<◌};
 ghost use Rattle.faults.specs.Faults.{unless, lowered, no_entries, first_entry, answer_of};
 
 // The lowest broken constraint with the lowest number that breaks it.
-#[derive(Clone, Copy)]
+#[derive(Clone, Copy, Debug, PartialEq, Eq)]
 pub enum Verdict {
     Valid,
     Breaks { constraint: u32, number: u32 },
 }
 
-// Both tests hold.
-pub fn both(a: bool, b: bool) -> bool
-    ensures { result ≡ a && b }
-{
-    if a {
-        return b;
-    }
-    false
+// For each constraint the lowest number that was noted; 0 where there is none, as in the entries that specs/Faults speaks of. Constraints
+// count from 1: the first entry is of none.
+#[derive(Clone, Copy, Debug, PartialEq, Eq)]
+pub struct Faults {
+    pub lowest: [u32; 12],
 }
 
-// The number breaks constraint k, unless that is kept.
-pub fn note(kept: bool, k: usize, number: u32, lowest: &mut [u32])
-    requires { k < length lowest.old }
-    ensures { lowest.new ≡ lowered (unless kept k number) lowest.old }
-{
-    if kept {
-        return;
+impl Faults {
+    pub fn new() -> Faults
+        ensures { result.lowest ≡ no_entries }
+    {
+        Faults { lowest: [0; 12] }
     }
-    let entry = lowest[k];
-    if entry == 0 || number < entry {
-        lowest[k] = number;
-    }
-}
 
-pub fn none() -> [u32; 12]
-    ensures { result ≡ no_entries }
-{
-    [0u32; 12]
-}
-
-// The first constraint with an entry.
-pub fn first(lowest: &[u32]) -> Verdict
-    requires { length lowest.now ≡ 12 }
-    ensures { answer_of result ≡ first_entry 1 11 lowest.now }
-{
-    let mut k: usize = 1;
-    while k < 12 {
-        let number = lowest[k];
-        if number != 0 {
-            let constraint = k as u32;
-            return Verdict::Breaks { constraint, number };
+    // The number breaks constraint k, unless that is kept.
+    pub fn note(&mut self, kept: bool, k: usize, number: u32)
+        requires { k < 12 }
+        ensures { self.new.lowest ≡ lowered (unless kept k number) self.old.lowest }
+    {
+        if kept {
+            return;
         }
-        k += 1;
+        let entry = self.lowest[k];
+        if entry == 0 || number < entry {
+            self.lowest[k] = number;
+        }
     }
-    Verdict::Valid
+
+    // The first constraint with an entry.
+    pub fn first(&self) -> Verdict
+        ensures { answer_of result ≡ first_entry 1 11 self.now.lowest }
+    {
+        for k in 1..12 {
+            let number = self.lowest[k];
+            if number != 0 {
+                let constraint = k as u32;
+                return Verdict::Breaks { constraint, number };
+            }
+        }
+        Verdict::Valid
+    }
 }

@@ -1,6 +1,4 @@
-pub mod Numbers
 pub mod Bounds
-pub mod Faults
 pub mod Named
-pub mod Order
-pub mod Lent
+pub mod Numbers
+pub mod Faults

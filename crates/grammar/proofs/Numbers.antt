@@ -1,18 +1,15 @@
--- Single numbers: one behind the end, and FIRST and LAST on a type line.
+-- FIRST and LAST on a type line.
 use Prim.Native.Nat.{ℕ, ◌-◌, ◌≤◌, ◌<◌}
-use mathlib.Core.Path.{◌≡◌, sym, ap}
-use mathlib.Core.Bool.{Bool, true, false, not, ◌&&◌}
+use mathlib.Core.Path.{◌≡◌, sym, ap, ◌∙◌}
+use mathlib.Core.Bool.{Bool, true, false, not}
 use mathlib.Core.List.{List}
 use lib.Dec.{leb, eqb}
-use lib.ListN.{length, get_or, drop, get_or-eq_default}
+use lib.ListN.{get_or, drop}
 use borrow.Author.Tests.{eq-eqb, ne_eqb, le-leb, lt-leb, not-true, not-false}
 use Rattle.orm.specs.Diagram.{ObjectType, is_root, index}
 use Rattle.orm.specs.Supertypes.{first_value, has_range, last_value}
 use Rattle.orm.specs.Form.{type_of, within_super, values_in_order}
 use Rattle.reading.specs.Walk.{types_in}
-
-pub past_end : (xs : List ℕ) (i : ℕ) → length xs ≤ i → 0 ≡ get_or xs i 0
-past_end xs i h = sym (get_or-eq_default xs 0 h)
 
 -- of the type with the numbers `v`, after these types
 module _ (ts : List ObjectType) (v : List ℕ) {b : Bool} (e : b ≡ has_range (type_of v)) where
@@ -36,10 +33,14 @@ module _ (ts : List ObjectType) (v : List ℕ) {b : Bool} (e : b ≡ has_range (
       order-within m w z = rw (← e, not-false b n, le-leb (get_or v 2 0) (get_or v 3 0) h, ne_eqb (get_or v 4 0) 0 m, values_in_order) (rw z at w)
 
 -- `a` is the index of its SUPER
-pub within-is : (ts : List ObjectType) (v : List ℕ) {a f l : ℕ} {r b c : Bool} → r ≡ (b && c) → b ≡ eqb (get_or v 2 0) f → c ≡ leb (get_or v 3 0) l
-    → f ≡ first_value ts a → l ≡ last_value ts a → a ≡ index (get_or v 4 0) → r ≡ within_super ts (type_of v)
-unfolding within_super
-within-is ts v er eb ec ef el ea = rw (er, eb, ec, ef, el, ea)
+module _ (ts : List ObjectType) (v : List ℕ) {a f : ℕ} (ef : f ≡ first_value ts a) (ea : a ≡ index (get_or v 4 0)) where
+  pub within-last : {l : ℕ} → get_or v 2 0 ≡ f → l ≡ last_value ts a → leb (get_or v 3 0) l ≡ within_super ts (type_of v)
+  unfolding within_super
+  within-last e el = rw (← ea, eq-eqb (get_or v 2 0) (first_value ts a) (e ∙ ef), ← el)
+
+  pub within-other : (get_or v 2 0 ≡ f → ⊥) → eqb (get_or v 2 0) f ≡ within_super ts (type_of v)
+  unfolding within_super
+  within-other n = rw (ne_eqb (get_or v 2 0) f n, ← ea, ne_eqb (get_or v 2 0) (first_value ts a) (λ e. n (e ∙ sym ef)))
 
 -- the types before the one with this number
 pub types-before : (s : List ℕ) (own : ℕ) {n : ℕ} → n ≡ index own → types_in n (drop 2 s) ≡ types_in (own - 1) (drop 2 s)

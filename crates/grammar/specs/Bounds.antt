@@ -1,8 +1,7 @@
 -- The range that the code's bounds stand for.
+use Rattle.std.specs.Prelude.{ℕ, Option, Some, None}
 use Rattle.orm.specs.Form.{Range, ◌to◌, unlimited}
-use Rattle.grammar.specs.declared.ranges.Bounds.{Bounds}
-use Rattle.grammar.specs.declared.ranges.Bounds.TheVariants.{Between, NoRange}
 
-abbrev pub range_of : Bounds → Range
-range_of (Between low high) = low to high
-range_of NoRange = unlimited
+abbrev pub range_of : Option (ℕ × ℕ) → Range
+range_of (Some r) = r.0 to r.1
+range_of None = unlimited

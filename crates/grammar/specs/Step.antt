@@ -1,5 +1,5 @@
 -- The tests of the line at a place, and where it leads.
-use Rattle.std.specs.Prelude.{ℕ, ◌+◌, Bool, List, [], ◌∷◌, leb, ltb, length, get_or, drop}
+use Rattle.std.specs.Prelude.{ℕ, ◌+◌, Bool, Result, Ok, Err, List, [], ◌∷◌, leb, ltb, length, get_or, drop}
 use Rattle.std.proofs.Math.Option.{Option, none, some}
 use Rattle.orm.specs.Diagram.{ObjectType, Frequency, LineKind, type_line, pred_line}
 use Rattle.orm.specs.Form.{Test, ◌unless◌, first_of, ranges, in_ranges, count_of, type_of, role_of, group_of, head_of, pred_tests, role_tests, group_tests, end_tests}
@@ -7,8 +7,7 @@ use Rattle.reading.specs.Walk.{type_tests_at, roles_at}
 use Rattle.grammar.specs.declared.Counts.{Counts}
 use Rattle.grammar.specs.declared.Awaited.{Awaited}
 use Rattle.grammar.specs.declared.Awaited.TheVariants.{AtDiagram, AtTypes, AtType, AtPreds, AtPred, AtRole, AtFreq, AtEnd, Over}
-use Rattle.grammar.specs.declared.Step.{Step}
-use Rattle.grammar.specs.declared.Step.TheVariants.{Refused, Next}
+use Rattle.grammar.specs.declared.Fault.{Fault}
 use Rattle.grammar.specs.Fault.{number_of}
 use Rattle.grammar.specs.Awaited.{counts_of, block_of, types_from, preds_from, groups_from, roles_from, kind_at}
 
@@ -52,9 +51,9 @@ pub data Consequence : Type 0 where
   refusing : ℕ → Consequence
   going : Awaited → Consequence
 
-abbrev pub step_of : Step → Consequence
-step_of (Refused f) = refusing (number_of f)
-step_of (Next p) = going p
+abbrev pub step_of : Result Awaited Fault → Consequence
+step_of (Err f) = refusing (number_of f)
+step_of (Ok p) = going p
 
 abbrev pub stepped : Option ℕ → Awaited → Consequence
 stepped none p = going p

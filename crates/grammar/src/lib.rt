@@ -15,45 +15,33 @@ ghost use Rattle.std.specs.Prelude.{◌≡◌};
 ghost use Rattle.grammar.specs.Fault.{number_of};
 
 // What is wrong with a line.
-#[derive(Clone, Copy)]
+#[derive(Clone, Copy, Debug, PartialEq, Eq)]
 pub enum Fault {
-    // 1: its key, its digits, the number of its values, its end, or that it is there at all
-    Malformed,
-    // 2: a number out of range, or a total passed
-    OutOfRange,
-    // 3: SUPER, TYPE or GROUP names what is not there
-    Unknown,
-    // 4: a MIN above its MAX, or the values of a type
-    Disordered,
-    // 5: a frequency group that no role names
-    Unnamed,
-    // 6: `end` is not the number of roles
-    Miscounted,
+    // its key, its digits, the number of its values, its end, or that it is there at all
+    Malformed = 1,
+    // a number out of range, or a total passed
+    OutOfRange = 2,
+    // SUPER, TYPE or GROUP names what is not there
+    Unknown = 3,
+    // a MIN above its MAX, or the values of a type
+    Disordered = 4,
+    // a frequency group that no role names
+    Unnamed = 5,
+    // `end` is not the number of roles
+    Miscounted = 6,
 }
 
 // The number of the refusal.
 pub fn number_of(fault: Fault) -> usize
     ensures { result ≡ number_of fault }
 {
-    match fault {
-        Fault::Malformed => 1,
-        Fault::OutOfRange => 2,
-        Fault::Unknown => 3,
-        Fault::Disordered => 4,
-        Fault::Unnamed => 5,
-        Fault::Miscounted => 6,
-    }
-}
-
-#[derive(Clone, Copy)]
-enum Verdict {
-    Fine,
-    Faulty(Fault),
+    fault as usize
 }
 
 // What is known from the lines before: the kind of the file, the number of types and of predicates,
-// the predicates whose lines are still to come, and the roles and groups so far.
-#[derive(Clone, Copy)]
+// the predicates whose lines are still to come, and the roles and groups so far. The kind is the
+// number 1 or 2 of the first line, since every definition of reading takes that number.
+#[derive(Clone, Copy, Debug, PartialEq, Eq)]
 pub struct Counts {
     pub kind: usize,
     pub types: usize,
@@ -65,7 +53,7 @@ pub struct Counts {
 
 // A predicate whose lines are being read: the place of its first role's numbers in the table, and
 // the numbers of its roles and groups. The counts include them.
-#[derive(Clone, Copy)]
+#[derive(Clone, Copy, Debug, PartialEq, Eq)]
 pub struct Block {
     pub counts: Counts,
     pub first: usize,
@@ -75,7 +63,7 @@ pub struct Block {
 
 // The line that comes next. `own` is its number among those of its kind, `left` says how many of
 // its kind follow it.
-#[derive(Clone, Copy)]
+#[derive(Clone, Copy, Debug, PartialEq, Eq)]
 pub enum Awaited {
     AtDiagram,
     AtTypes {
@@ -109,11 +97,4 @@ pub enum Awaited {
     Over {
         counts: Counts,
     },
-}
-
-// What a line leads to.
-#[derive(Clone, Copy)]
-pub enum Step {
-    Refused(Fault),
-    Next(Awaited),
 }

@@ -4,11 +4,11 @@ ghost use Rattle.orm.specs.Diagram.{role_line_of};
 ghost use Rattle.lexer.specs.Cuts.{kind_of, fields_of};
 ghost use Rattle.grammar.specs.Awaited.{role_fields_of, types_from, preds_from, groups_from, roles_from, counts_of, block_of, kind_at, fields_at, is_going, counts_at};
 
-use crate::tests::number;
 use crate::{Awaited, Block, Counts};
 use lexer::Kind;
 
 // A role line in a diagram of this kind.
+#[tactic(auto, unfolding(orm::specs::Diagram::role_line_of, orm::specs::Diagram::limits_roles))]
 pub fn role_kind(kind: usize) -> Kind
     ensures result_value { kind_of result ≡ role_line_of kind }
     ensures result_value_2 { fields_of result ≡ role_fields_of kind }
@@ -27,26 +27,13 @@ pub fn kind_at(place: Awaited) -> Kind
 {
     match place {
         Awaited::AtDiagram => Kind::DiagramLine,
-        Awaited::AtTypes { kind: _ } => Kind::TypesLine,
-        Awaited::AtType {
-            kind: _,
-            types: _,
-            own: _,
-            left: _,
-        } => Kind::TypeLine,
-        Awaited::AtPreds { kind: _, types: _ } => Kind::PredsLine,
-        Awaited::AtPred { counts: _ } => Kind::PredLine,
-        Awaited::AtRole { block, left: _ } => {
-            let counts = block.counts;
-            role_kind(counts.kind)
-        }
-        Awaited::AtFreq {
-            block: _,
-            own: _,
-            left: _,
-        } => Kind::FreqLine,
-        Awaited::AtEnd { counts: _ } => Kind::EndLine,
-        Awaited::Over { counts: _ } => Kind::EndLine,
+        Awaited::AtTypes { .. } => Kind::TypesLine,
+        Awaited::AtType { .. } => Kind::TypeLine,
+        Awaited::AtPreds { .. } => Kind::PredsLine,
+        Awaited::AtPred { .. } => Kind::PredLine,
+        Awaited::AtRole { block, .. } => role_kind(block.counts.kind),
+        Awaited::AtFreq { .. } => Kind::FreqLine,
+        Awaited::AtEnd { .. } | Awaited::Over { .. } => Kind::EndLine,
     }
 }
 
@@ -54,26 +41,7 @@ pub fn kind_at(place: Awaited) -> Kind
 pub fn is_going(place: Awaited) -> bool
     ensures { result ≡ is_going place }
 {
-    match place {
-        Awaited::AtDiagram => true,
-        Awaited::AtTypes { kind: _ } => true,
-        Awaited::AtType {
-            kind: _,
-            types: _,
-            own: _,
-            left: _,
-        } => true,
-        Awaited::AtPreds { kind: _, types: _ } => true,
-        Awaited::AtPred { counts: _ } => true,
-        Awaited::AtRole { block: _, left: _ } => true,
-        Awaited::AtFreq {
-            block: _,
-            own: _,
-            left: _,
-        } => true,
-        Awaited::AtEnd { counts: _ } => true,
-        Awaited::Over { counts: _ } => false,
-    }
+    !matches!(place, Awaited::Over { .. })
 }
 
 // The counts at the end; before it none.
@@ -81,24 +49,8 @@ pub fn counts_at(place: Awaited) -> Counts
     ensures { result ≡ counts_at place }
 {
     match place {
-        Awaited::AtDiagram => counts_of(0, 0, 0),
-        Awaited::AtTypes { kind: _ } => counts_of(0, 0, 0),
-        Awaited::AtType {
-            kind: _,
-            types: _,
-            own: _,
-            left: _,
-        } => counts_of(0, 0, 0),
-        Awaited::AtPreds { kind: _, types: _ } => counts_of(0, 0, 0),
-        Awaited::AtPred { counts: _ } => counts_of(0, 0, 0),
-        Awaited::AtRole { block: _, left: _ } => counts_of(0, 0, 0),
-        Awaited::AtFreq {
-            block: _,
-            own: _,
-            left: _,
-        } => counts_of(0, 0, 0),
-        Awaited::AtEnd { counts: _ } => counts_of(0, 0, 0),
         Awaited::Over { counts } => counts,
+        _ => counts_of(0, 0, 0),
     }
 }
 
@@ -122,19 +74,12 @@ pub fn types_from(kind: usize, types: usize, own: usize, left: usize) -> Awaited
 pub fn preds_from(counts: Counts) -> Awaited
     ensures { result ≡ preds_from counts }
 {
-    let left = counts.left;
-    if left == 0 {
+    if counts.left == 0 {
         Awaited::AtEnd { counts }
     } else {
+        let left = counts.left - 1;
         Awaited::AtPred {
-            counts: Counts {
-                kind: counts.kind,
-                types: counts.types,
-                preds: counts.preds,
-                left: left - 1,
-                roles: counts.roles,
-                groups: counts.groups,
-            },
+            counts: Counts { left, ..counts },
         }
     }
 }
@@ -144,8 +89,7 @@ pub fn groups_from(block: Block, own: usize, left: usize) -> Awaited
     ensures { result ≡ groups_from block own left }
 {
     if left == 0 {
-        let counts = block.counts;
-        preds_from(counts)
+        preds_from(block.counts)
     } else {
         Awaited::AtFreq {
             block,
@@ -189,16 +133,13 @@ pub fn block_of(counts: Counts, first: usize, line: &[u32]) -> Block
     requires line_len { length line.now ≡ 4 }
     ensures { result ≡ block_of counts first line.now }
 {
-    let roles = number(line, 2);
-    let groups = number(line, 3);
+    let roles = line[2] as usize;
+    let groups = line[3] as usize;
     Block {
         counts: Counts {
-            kind: counts.kind,
-            types: counts.types,
-            preds: counts.preds,
-            left: counts.left,
             roles: counts.roles + roles,
             groups: counts.groups + groups,
+            ..counts
         },
         first,
         roles,

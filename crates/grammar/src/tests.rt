@@ -1,64 +1,11 @@
-// Single numbers and their tests.
-ghost use Rattle.std.specs.Prelude.{◌≡◌, ◌&&◌, ◌-◌, ◌≤◌, ◌<◌, leb, ltb, eqb, length, get_or, drop};
+// Tests of a line that look at more than one number.
+ghost use Rattle.std.specs.Prelude.{◌≡◌, ◌-◌, ◌≤◌, leb, length, get_or, drop};
 ghost use Rattle.orm.specs.Form.{type_of, role_of, within_super, values_in_order, named};
 ghost use Rattle.reading.specs.Walk.{types_in, roles_at};
 ghost use Rattle.grammar.specs.Awaited.{role_fields_of};
 
 use crate::places::role_kind;
 use lexer::lines::fields_of;
-
-// The number at `i`; 0 behind the end.
-fn item(numbers: &[u32], i: usize) -> usize
-    ensures value { result ≡ get_or numbers.now i 0 }
-    ensures upper_bound { result < 4294967296 }
-{
-    if i < numbers.len() {
-        index(numbers[i])
-    } else {
-        0
-    }
-}
-
-// The number at `i` of a line, which has it.
-pub fn number(line: &[u32], i: usize) -> usize
-    requires { i < length line.now }
-    ensures value { result ≡ get_or line.now i 0 }
-    ensures upper_bound { result < 4294967296 }
-{
-    index(line[i])
-}
-
-// A cast; callers learn the bound too.
-fn index(x: u32) -> usize
-    ensures value { result ≡ x }
-    ensures upper_bound { result < 4294967296 }
-{
-    x as usize
-}
-
-pub fn at_most(a: usize, b: usize) -> bool
-    ensures { result ≡ leb a b }
-{
-    a <= b
-}
-
-pub fn below(a: usize, b: usize) -> bool
-    ensures { result ≡ ltb a b }
-{
-    a < b
-}
-
-pub fn equal(a: usize, b: usize) -> bool
-    ensures { result ≡ eqb a b }
-{
-    a == b
-}
-
-fn both(a: bool, b: bool) -> bool
-    ensures { result ≡ (a && b) }
-{
-    if a { b } else { false }
-}
 
 // Whether FIRST on a subtype's line is its root's, and LAST not above that of the nearest type above it that gives one; the
 // lines of `count` types stand in `before`.
@@ -69,7 +16,7 @@ fn within_super(count: u32, before: &[u32], line: &[u32]) -> bool
     let above = supertypes::index(line[4]);
     let first = supertypes::first_value(before, count, above);
     let last = supertypes::last_value(before, count, above);
-    both(line[2] == first, line[3] <= last)
+    line[2] == first && line[3] <= last
 }
 
 // Whether FIRST and LAST may stand on the line of the type with the number `own`: in order and, on a subtype, within its
@@ -91,31 +38,37 @@ pub fn values_in_order(own: usize, before: &[u32], line: &[u32]) -> bool
     within_super(supertypes::index(own as u32), before, line)
 }
 
+// The number at `i`; 0 behind the end.
+fn number_at(numbers: &[u32], i: usize) -> usize
+    ensures { result ≡ get_or numbers.now i 0 }
+{
+    numbers.get(i).copied().unwrap_or(0) as usize
+}
+
 // Whether one of the `count` roles of a diagram of this kind whose numbers start at `first` is in the group.
 pub fn is_named(group: usize, kind: usize, numbers: &[u32], first: usize, count: usize) -> bool
     requires { (first ≤ 4294967296) × (count ≤ 4294967296) }
     ensures { result ≡ named group (roles_at kind count (drop first numbers.now)) }
 {
     let width = fields_of(role_kind(kind));
-    let mut left = count;
     let mut at = first;
-    while 0 < left {
-        if item(numbers, at + 2) == group {
+    for _ in 0..count {
+        if number_at(numbers, at + 2) == group {
             return true;
         }
         at += width;
-        left -= 1;
     }
     false
 }
 
 // Whether RMIN is not above RMAX on a role line in a diagram of this kind; without them it is not.
+#[inline(always)]
 pub fn limits_in_order(kind: usize, line: &[u32]) -> bool
     requires { length line.now ≡ role_fields_of kind }
     ensures { result ≡ leb (role_of kind line.now).rmin (role_of kind line.now).rmax }
 {
     if kind == 2 {
-        return at_most(number(line, 3), number(line, 4));
+        return line[3] <= line[4];
     }
     true
 }

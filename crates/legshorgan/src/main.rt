@@ -12,14 +12,6 @@ use std::io::{Read, Write};
 // Enough for what is printed of any text (`program-at-most`, in crate extent).
 const SPACE: usize = 262144;
 
-fn input_space() -> [u8; command::MOST_INPUT] {
-    [0u8; command::MOST_INPUT]
-}
-
-fn output_space() -> [u8; SPACE] {
-    [0u8; SPACE]
-}
-
 fn main(rt: HostRuntime) -> io::Result<()> {
     answer(&mut rt.reader(), &mut io::writer(&rt))
 }
@@ -30,9 +22,9 @@ fn answer<R: Read, W: Write>(reader: &mut R, writer: &mut W) -> io::Result<()>
     ensures { OnOk result (IfSome (R.remaining reader.old)
         (λ xs. Appends (W.contents writer.old) (W.contents writer.new) (program xs))) }
 {
-    let mut text = input_space();
+    let mut text = [0; command::MOST_INPUT];
     let n = input::read_full(reader, &mut text)?;
-    let mut out = output_space();
+    let mut out = [0; SPACE];
     let length = report(&text[..n], &mut out);
     writer.write_all(&out[..length])
 }

@@ -1,63 +1,67 @@
--- A key or a separator at a position of the text: what is left of both comes to the whole.
-use Prim.Native.Nat.{ℕ, zero, suc, ◌+◌, ◌≤◌, ◌<◌}
-use native.Mathlib.Numerals.{add-one}
-use mathlib.Core.Path.{◌≡◌, refl, ap, ◌∙◌}
-use mathlib.Core.Option.{Option, none, some}
-use mathlib.Core.List.{List, [], ◌∷◌, ◌++◌}
-use lib.ListN.{length, get_or, drop, drop_of_length-le}
-use lib.Seq.{drop-cons}
-use borrow.Author.Tests.{eq-eqb, ne_eqb}
+-- A key or a separator at a position of the text.
+use Rattle.std.specs.Prelude.{ℕ, zero, suc, ◌+◌, ◌≤◌, ◌<◌, ◌≡◌, refl, Bool, true, false, ◌&&◌, List, [], ◌∷◌, ◌++◌, eqb, length, get_or, drop}
+use Rattle.std.proofs.Common.{arith, sym, ◌∙◌, add-one, drop-cons, drop-drop, drop_of_length-le, eq-eqb, ne_eqb, take_all, length-drop}
+use Rattle.std.specs.List.{starts_with, slice_range}
+use Rattle.std.proofs.Math.Option.{Option as Rest, none, some}
 use Rattle.orm.specs.Text.{bytes, key, after, separator}
 use Rattle.lexer.specs.declared.Kind.{Kind}
 use Rattle.lexer.specs.declared.Kind.TheVariants.{DiagramLine, TypesLine, TypeLine, PredsLine, PredLine, RoleLine, LimitedRoleLine, FreqLine, EndLine}
-use Rattle.lexer.specs.declared.Found.{Found}
-use Rattle.lexer.specs.declared.Found.TheVariants.{To, Nothing}
-use Rattle.lexer.specs.Cuts.{kind_of, found_at, separator_key, key_of}
-use Rattle.lexer.specs.Tails.{Tail, after_tail, position-same, position-next}
+use Rattle.lexer.specs.Cuts.{kind_of, key_of}
 
-module _ (key s : List ℕ) (start i at : ℕ) where
-  abbrev pub Behind : Type 0
-  Behind = found_at s at (after (drop i key) (drop at s)) ≡ found_at s start (after key (drop start s))
+-- ---- a key
 
-  pub behind-end : Behind → length key ≤ i → To at ≡ found_at s start (after key (drop start s))
-  unfolding after
-  behind-end w h = ap To (position-same s at) ∙ (rw (drop_of_length-le key {i = i} h) at w)
-
-  pub behind-short : Behind → i < length key → length s ≤ at → Nothing ≡ found_at s start (after key (drop start s))
-  unfolding after
-  behind-short w h k = rw (drop-cons key i 0 h, drop_of_length-le s {i = at} k) at w
-
-  pub behind-other : Behind → i < length key → at < length s → (get_or key i 0 ≡ get_or s at 0 → ⊥)
-      → Nothing ≡ found_at s start (after key (drop start s))
-  unfolding after
-  behind-other w h k n = rw (drop-cons key i 0 h, drop-cons s at 0 k, ne_eqb (get_or key i 0) (get_or s at 0) n, after) at w
-
-found-next : (key s : List ℕ) (at : ℕ) → at < length s
-    → found_at s (at + 1) (after key (drop (at + 1) s)) ≡ found_at s at (after key (drop (at + 1) s))
-found-next key s at h = go (after key (drop (at + 1) s)) (λ rest e. after_tail key (drop (at + 1) s) rest e)
-  where
-    go : (o : Option (List ℕ)) → ((rest : List ℕ) → o ≡ some rest → Tail rest (drop (at + 1) s)) → found_at s (at + 1) o ≡ found_at s at o
-    go none t = refl
-    go (some rest) t = ap To (position-next s at rest h (t rest refl))
-
-pub behind_more : (key s : List ℕ) (start i at : ℕ) → Behind key s start i at → i < length key → at < length s
-    → get_or key i 0 ≡ get_or s at 0 → Behind key s start (i + 1) (at + 1)
+found-if : (key t : List ℕ) → after key t ≡ elim (starts_with eqb t key) as (λ _. Rest (List ℕ)) [ true ↦ some (drop (length key) t) | false ↦ none ]
 unfolding after
-behind_more key s start i at w h k q =
-    found-next (drop (i + 1) key) s at k
-    ∙ rw (add-one i, add-one at) (rw (drop-cons key i 0 h, drop-cons s at 0 k, eq-eqb (get_or key i 0) (get_or s at 0) q, after) at w)
+found-if [] t = refl
+found-if (p ∷ ps) [] = refl
+found-if (p ∷ ps) (b ∷ t) = go (eqb p b) (found-if ps t)
+  where
+    go : (x : Bool) → after ps t ≡ elim (starts_with eqb t ps) as (λ _. Rest (List ℕ)) [ true ↦ some (drop (length ps) t) | false ↦ none ]
+        → elim x as (λ _. Rest (List ℕ)) [ false ↦ none | true ↦ after ps t ]
+        ≡ elim (x && starts_with eqb t ps) as (λ _. Rest (List ℕ)) [ true ↦ some (drop (length ps) t) | false ↦ none ]
+    go true e = e
+    go false e = refl
 
-module _ (s : List ℕ) (at : ℕ) (f : Found) where
-  pub line_feed : (left : ℕ) → left ≡ 0 → f ≡ found_at s at (after (10 ∷ []) (drop at s))
-      → f ≡ found_at s at (after (separator_key left) (drop at s))
-  unfolding separator
-  line_feed left e w = rw e w
+-- the text from a position on
+module _ (s : List ℕ) (at : ℕ) {t : List ℕ} (e : t ≡ slice_range s at (length s)) where
+  whole : t ≡ drop at s
+  whole = e ∙ take_all _ (drop at s) (omega (arith, length-drop at s))
 
-  pub comma : (left : ℕ) → (left ≡ 0 → ⊥) → f ≡ found_at s at (after (44 ∷ []) (drop at s))
-      → f ≡ found_at s at (after (separator_key left) (drop at s))
-  unfolding separator
-  comma zero n w = absurd (n refl)
-  comma (suc left) n w = w
+  pub found-there : (key : List ℕ) → true ≡ starts_with eqb t key → some (drop (at + length key) s) ≡ after key (drop at s)
+  found-there key b = rw (← drop-drop (length key) at s, ← whole) (sym (found-if key t ∙ rw (sym b) refl))
+
+  pub found-other : (key : List ℕ) → false ≡ starts_with eqb t key → none ≡ after key (drop at s)
+  found-other key b = rw (← whole) (sym (found-if key t ∙ rw (sym b) refl))
+
+pub found-behind : (s key : List ℕ) (at : ℕ) → length s < at → 0 < length key → none ≡ after key (drop at s)
+unfolding after
+found-behind s [] at h k = absurd (omega arith)
+found-behind s (p ∷ ps) at h k = rw (drop_of_length-le s {i = at} (omega arith), after)
+
+-- ---- a separator
+
+pub line_feed : (left : ℕ) → left ≡ 0 → 10 ≡ separator left
+unfolding separator
+line_feed left e = rw e refl
+
+pub comma : (left : ℕ) → (left ≡ 0 → ⊥) → 44 ≡ separator left
+unfolding separator
+comma zero n = absurd (n refl)
+comma (suc left) n = refl
+
+module _ (s : List ℕ) (at c : ℕ) where
+  pub byte-behind : length s ≤ at → none ≡ after (c ∷ []) (drop at s)
+  unfolding after
+  byte-behind h = rw (drop_of_length-le s {i = at} h)
+
+  module _ (x : ℕ) (h : at < length s) (e : x ≡ get_or s at x) where
+    pub byte-there : x ≡ c → some (drop (at + 1) s) ≡ after (c ∷ []) (drop at s)
+    unfolding after
+    byte-there q = rw (drop-cons s at x h, eq-eqb c (get_or s at x) (sym q ∙ e), add-one, after) refl
+
+    pub byte-other : (x ≡ c → ⊥) → none ≡ after (c ∷ []) (drop at s)
+    unfolding after
+    byte-other n = rw (drop-cons s at x h, ne_eqb c (get_or s at x) (λ q. n (e ∙ sym q)), after) refl
 
 pub key-is : (k : Kind) → bytes (key (kind_of k)) ++ 61 ∷ [] ≡ key_of k
 unfolding bytes key

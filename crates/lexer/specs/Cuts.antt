@@ -1,16 +1,13 @@
 -- What the functions that cut numbers and lines off a text answer, in the words of Text.antt: a position stands for what follows it.
-use Rattle.std.specs.Prelude.{ℕ, zero, suc, ◌+◌, ◌-◌, List, [], ◌∷◌, ◌++◌, length, drop}
-use Rattle.std.proofs.Math.Option.{Option, none, some}
+use Rattle.std.specs.Prelude.{ℕ, zero, suc, List, [], ◌∷◌, ◌++◌, Option, Some, None, drop}
+use Rattle.std.proofs.Math.Option.{Option as Rest, none, some}
 use Rattle.orm.specs.Diagram as orm
 use Rattle.orm.specs.Reader.{Cut, broken, cut}
 use Rattle.orm.specs.Form.{fields, role_fields, limited_role_fields}
 use Rattle.orm.specs.Text as text
 use Rattle.lexer.specs.declared.Kind.{Kind}
 use Rattle.lexer.specs.declared.Kind.TheVariants.{DiagramLine, TypesLine, TypeLine, PredsLine, PredLine, RoleLine, LimitedRoleLine, FreqLine, EndLine}
-use Rattle.lexer.specs.declared.Numeral.{Numeral}
-use Rattle.lexer.specs.declared.Numeral.TheVariants.{Malformed, Value}
-use Rattle.lexer.specs.declared.Found.{Found}
-use Rattle.lexer.specs.declared.Found.TheVariants.{To, Nothing}
+use Rattle.lexer.specs.declared.numbers.Numeral.{Numeral}
 
 abbrev pub kind_of : Kind → orm.LineKind
 kind_of DiagramLine = orm.diagram_line
@@ -23,25 +20,20 @@ kind_of LimitedRoleLine = orm.limited_role_line
 kind_of FreqLine = orm.freq_line
 kind_of EndLine = orm.end_line
 
--- The position behind what is taken off the text from `at` on, so that `rest` is left
-abbrev pub behind : List ℕ → ℕ → List ℕ → ℕ
-behind s at rest = at + (length (drop at s) - length rest)
+-- A number in the text `s`, and what follows it
+abbrev pub numeral_of : List ℕ → Option Numeral → text.Numeral
+numeral_of s None = text.malformed
+numeral_of s (Some n) = text.numeral n.value (drop n.end s)
 
-abbrev pub numeral_at : List ℕ → ℕ → text.Numeral → Numeral
-numeral_at s at text.malformed = Malformed
-numeral_at s at (text.numeral v rest) = Value v (behind s at rest)
+-- What follows a position, if something ends there
+abbrev pub rest_of : List ℕ → Option ℕ → Rest (List ℕ)
+rest_of s None = none
+rest_of s (Some end) = some (drop end s)
 
-abbrev pub found_at : List ℕ → ℕ → Option (List ℕ) → Found
-found_at s at none = Nothing
-found_at s at (some rest) = To (behind s at rest)
-
--- Where a line ends
-abbrev pub cut_at : List ℕ → ℕ → Cut → Found
-cut_at s at broken = Nothing
-cut_at s at (cut vs rest) = To (behind s at rest)
-
-abbrev pub separator_key : ℕ → List ℕ
-separator_key left = text.separator left ∷ []
+-- What follows a line that is cut off
+abbrev pub rest_in : Cut → Rest (List ℕ)
+rest_in broken = none
+rest_in (cut vs rest) = some rest
 
 -- The bytes of a key and its `=`; proofs/Prefixes.antt shows that they are those of Text.antt
 abbrev pub key_of : Kind → List ℕ

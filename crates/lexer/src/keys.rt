@@ -1,53 +1,57 @@
 // A key, or a separator, that stands at a position of the text.
-ghost use Rattle.std.specs.Prelude.{◌≡◌, drop};
-ghost use Rattle.orm.specs.Text.{after};
-ghost use Rattle.lexer.specs.Cuts.{found_at, separator_key, key_of};
+ghost use Rattle.std.specs.Prelude.{◌≡◌, [], ◌∷◌, ◌≤◌, ◌<◌, length, drop, IfSome};
+ghost use Rattle.orm.specs.Text.{after, separator};
+ghost use Rattle.lexer.specs.Cuts.{rest_of, key_of};
 
-use crate::{Found, Kind};
+use crate::Kind;
 
-// Where `key` ends that starts at `start`.
-fn behind(key: &[u8], text: &[u8], start: usize) -> Found
-    ensures { result ≡ found_at text.now start (after key.now (drop start text.now)) }
+// Where `key` ends that starts at `at`.
+fn behind(key: &[u8], text: &[u8], at: usize) -> Option<usize>
+    requires { 0 < length key.now }
+    ensures value { rest_of text.now result ≡ after key.now (drop at text.now) }
+    ensures end_in_bounds { IfSome result (λ end. end ≤ length text.now) }
 {
-    let mut i = 0;
-    let mut at = start;
-    while i < key.len() {
-        if text.len() <= at {
-            return Found::Nothing;
-        }
-        if key[i] != text[at] {
-            return Found::Nothing;
-        }
-        i += 1;
-        at += 1;
+    if text.get(at..)?.starts_with(key) {
+        Some(at + key.len())
+    } else {
+        None
     }
-    Found::To(at)
 }
 
-// What follows a number that `left` more follow on its line: a comma, or the line feed.
-pub fn behind_separator(left: usize, text: &[u8], at: usize) -> Found
-    ensures { result ≡ found_at text.now at (after (separator_key left) (drop at text.now)) }
+// What has to follow a number before `left` more on its line.
+fn separator(left: usize) -> u8
+    ensures { result ≡ separator left }
 {
-    if left == 0 {
-        behind(b"\n", text, at)
+    if left == 0 { b'\n' } else { b',' }
+}
+
+// Where the comma or the line feed ends that has to follow a number before `left` more on its line.
+#[inline(always)]
+pub fn behind_separator(left: usize, text: &[u8], at: usize) -> Option<usize>
+    ensures value { rest_of text.now result ≡ after (separator left ∷ []) (drop at text.now) }
+    ensures end_in_bounds { IfSome result (λ end. end ≤ length text.now) }
+{
+    if *text.get(at)? == separator(left) {
+        Some(at + 1)
     } else {
-        behind(b",", text, at)
+        None
     }
 }
 
 // Where the key of this kind of line and its `=` end.
-pub fn behind_key(kind: Kind, text: &[u8], at: usize) -> Found
-    ensures { result ≡ found_at text.now at (after (key_of kind) (drop at text.now)) }
+pub fn behind_key(kind: Kind, text: &[u8], at: usize) -> Option<usize>
+    ensures value { rest_of text.now result ≡ after (key_of kind) (drop at text.now) }
+    ensures end_in_bounds { IfSome result (λ end. end ≤ length text.now) }
 {
-    match kind {
-        Kind::DiagramLine => behind(b"diagram=", text, at),
-        Kind::TypesLine => behind(b"types=", text, at),
-        Kind::TypeLine => behind(b"type=", text, at),
-        Kind::PredsLine => behind(b"preds=", text, at),
-        Kind::PredLine => behind(b"pred=", text, at),
-        Kind::RoleLine => behind(b"role=", text, at),
-        Kind::LimitedRoleLine => behind(b"role=", text, at),
-        Kind::FreqLine => behind(b"freq=", text, at),
-        Kind::EndLine => behind(b"end=", text, at),
-    }
+    let key: &[u8] = match kind {
+        Kind::DiagramLine => b"diagram=",
+        Kind::TypesLine => b"types=",
+        Kind::TypeLine => b"type=",
+        Kind::PredsLine => b"preds=",
+        Kind::PredLine => b"pred=",
+        Kind::RoleLine | Kind::LimitedRoleLine => b"role=",
+        Kind::FreqLine => b"freq=",
+        Kind::EndLine => b"end=",
+    };
+    behind(key, text, at)
 }

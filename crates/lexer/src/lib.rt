@@ -6,7 +6,7 @@ pub mod lines;
 pub mod numbers;
 
 // The kind of a line: its key, and of a role line whether it has RMIN and RMAX.
-#[derive(Clone, Copy)]
+#[derive(Clone, Copy, Debug, PartialEq, Eq)]
 pub enum Kind {
     DiagramLine,
     TypesLine,
@@ -17,18 +17,4 @@ pub enum Kind {
     LimitedRoleLine,
     FreqLine,
     EndLine,
-}
-
-// A number and where what follows it starts.
-#[derive(Clone, Copy)]
-pub enum Numeral {
-    Malformed,
-    Value(u32, usize),
-}
-
-// Where what was looked for ends.
-#[derive(Clone, Copy)]
-pub enum Found {
-    To(usize),
-    Nothing,
 }

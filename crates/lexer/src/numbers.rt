@@ -1,59 +1,52 @@
 // A number in decimal digits.
-ghost use Rattle.std.specs.Prelude.{◌≡◌, ◌+◌, ◌*◌, ◌^◌, ◌-◌, ◌≤◌, drop};
-ghost use Rattle.orm.specs.Text.{is_digit, digits, number};
-ghost use Rattle.lexer.specs.Cuts.{numeral_at};
+ghost use Rattle.std.specs.Prelude.{◌≡◌, ◌+◌, ◌*◌, ◌^◌, ◌≤◌, length, drop, IfSome};
+ghost use Rattle.orm.specs.Text.{digits, number};
+ghost use Rattle.lexer.specs.Cuts.{numeral_of};
 
-use crate::Numeral;
-
-pub fn is_digit(b: u8) -> bool
-    ensures { result ≡ is_digit b }
-{
-    48 <= b && b <= 57
-}
-
-fn digit_value(b: u8) -> u32
-    requires { (48 ≤ b) × (b ≤ 57) }
-    ensures { result ≡ b - 48 }
-{
-    (b - 48) as u32
+// A number, and where what follows it starts.
+#[derive(Clone, Copy, Debug, PartialEq, Eq)]
+pub struct Numeral {
+    pub value: u32,
+    pub end: usize,
 }
 
 // The number that goes on at `start` from the value `first`, by at most `most` more digits.
-fn more_digits(text: &[u8], start: usize, most: u32, first: u32) -> Numeral
-    requires { (first + 1) * 10 ^ most ≤ 1000000 }
-    ensures { result ≡ numeral_at text.now start (digits most first (drop start text.now)) }
+#[inline(always)]
+fn more_digits(text: &[u8], start: usize, most: usize, first: u32) -> Option<Numeral>
+    requires few { (first + 1) * 10 ^ most ≤ 1000000 }
+    requires start_in_bounds { start ≤ length text.now }
+    ensures value { numeral_of text.now result ≡ digits most first (drop start text.now) }
+    ensures end_in_bounds { IfSome result (λ n. n.end ≤ length text.now) }
 {
-    let mut at = start;
-    let mut left = most;
-    let mut v = first;
-    while at < text.len() {
+    let mut value = first;
+    for at in start..text.len() {
         let b = text[at];
-        if !is_digit(b) {
-            return Numeral::Value(v, at);
+        if !b.is_ascii_digit() {
+            return Some(Numeral { value, end: at });
         }
-        if left == 0 {
-            return Numeral::Malformed;
+        if most <= at - start {
+            return None;
         }
-        left -= 1;
-        v = v * 10 + digit_value(b);
-        at += 1;
+        value = value * 10 + (b - b'0') as u32;
     }
-    Numeral::Value(v, at)
+    Some(Numeral {
+        value,
+        end: text.len(),
+    })
 }
 
 // 1 to 6 digits, no leading zero but in 0 itself.
-pub fn number_at(text: &[u8], at: usize) -> Numeral
-    ensures { result ≡ numeral_at text.now at (number (drop at text.now)) }
+#[inline(always)]
+pub fn number_at(text: &[u8], at: usize) -> Option<Numeral>
+    ensures value { numeral_of text.now result ≡ number (drop at text.now) }
+    ensures end_in_bounds { IfSome result (λ n. n.end ≤ length text.now) }
 {
-    if text.len() <= at {
-        return Numeral::Malformed;
+    let b = *text.get(at)?;
+    if !b.is_ascii_digit() {
+        return None;
     }
-    let b = text[at];
-    if !is_digit(b) {
-        return Numeral::Malformed;
-    }
-    if b == 48 {
+    if b == b'0' {
         return more_digits(text, at + 1, 0, 0);
     }
-    more_digits(text, at + 1, 5, digit_value(b))
+    more_digits(text, at + 1, 5, (b - b'0') as u32)
 }

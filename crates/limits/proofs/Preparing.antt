@@ -8,8 +8,8 @@ use lib.Seq.{length-take-le}
 use Rattle.orm.specs.Diagram.{Role, all_roles}
 use Rattle.orm.specs.Sets.{lower, upper}
 use Rattle.orm.proofs.Laws.Bounds.{bounds-paired}
-use Rattle.buffer.specs.Written.{Wrote}
-use Rattle.buffer.specs.Laws.{wrote-end, wrote-front, wrote-within, wrote-whole}
+use Rattle.buffer.specs.Written.{WroteAll}
+use Rattle.buffer.specs.Laws.{wrote-end, wrote-front, wrote-inside, wrote-whole}
 use Rattle.table.specs.Positions.{diagram_of}
 use Rattle.selection.specs.Selected.{types_of, Types}
 use Rattle.limits.specs.Prepared.{ValidTotals, Listable, types_in, Roomy}
@@ -20,12 +20,12 @@ module _ {t types : List ℕ} {roles : ℕ} (l : Listable t roles types) where
   as_many : length (types_of (all_roles (diagram_of t))) ≡ length (all_roles (diagram_of t))
   as_many = length-map (all_roles (diagram_of t)) (λ (r : Role). r.type)
 
-  module _ {types' : List ℕ} {n : ℕ} (w : Wrote types 0 (types_of (all_roles (diagram_of t))) types' n) where
+  module _ {types' : List ℕ} {n : ℕ} (w : WroteAll types (types_of (all_roles (diagram_of t))) types' n) where
     fits : length (types_of (all_roles (diagram_of t))) ≤ length types
     fits = omega (arith, as_many, l.room)
 
     pub types-within : n ≤ length types'
-    types-within = wrote-within w fits
+    types-within = wrote-inside w
 
     pub types-count : n ≡ length (take n types')
     types-count = sym (length-take-le n types' types-within)
@@ -40,7 +40,7 @@ module _ {t types : List ℕ} {roles : ℕ} (l : Listable t roles types) where
 
 -- ---- all that the rounds start from
 
-module _ {t types limits' low up : List ℕ} (room : Roomy t types limits' low up) where
+module _ {t types low up : List ℕ} (room : Roomy t types low up) where
   pub listable : {roles groups : ℕ} → ValidTotals t roles groups → Listable t roles types
   listable v = record {
     walkable = v.walkable;
@@ -50,9 +50,9 @@ module _ {t types limits' low up : List ℕ} (room : Roomy t types limits' low u
   }
 
   -- as many lower as upper bounds
-  pub lower-counted : {low' up' : List ℕ} {n k : ℕ} → Wrote low 0 (lower (diagram_of t)) low' n → Wrote up 0 (upper (diagram_of t)) up' k
-      → Wrote low 0 (lower (diagram_of t)) low' k
+  pub lower-counted : {low' up' : List ℕ} {n k : ℕ} → WroteAll low (lower (diagram_of t)) low' n → WroteAll up (upper (diagram_of t)) up' k
+      → WroteAll low (lower (diagram_of t)) low' k
   lower-counted {low'} wl wu =
       let paired : length (lower (diagram_of t)) ≡ length (upper (diagram_of t)) = bounds-paired (diagram_of t) in
-      subst (Wrote low 0 (lower (diagram_of t)) low')
+      subst (WroteAll low (lower (diagram_of t)) low')
       (wrote-end wl room.lower_room ∙ paired ∙ sym (wrote-end wu (omega (arith, paired, room.upper_room)))) wl

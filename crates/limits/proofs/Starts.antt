@@ -11,6 +11,7 @@ use Rattle.orm.specs.Supertypes.{has_range}
 use Rattle.orm.specs.Form.{type_of}
 use Rattle.orm.specs.Sets.{lower, upper, upper_of_type, upper_of_role}
 use Rattle.table.specs.Positions.{wide_role}
+use Rattle.buffer.specs.declared.output.Output.{Output}
 use Rattle.buffer.specs.Written.{Wrote}
 use Rattle.buffer.specs.Laws.{wrote_then, wrote_as}
 
@@ -43,22 +44,22 @@ map_same : {A : Type 0} (x : ℕ) (ys : List A) → map (λ (y : A). x) ys ≡ r
 map_same x [] = refl
 map_same x (y ∷ ys) = ap {B = List ℕ} (λ zs. x ∷ zs) (map_same x ys)
 
-module _ (d : Diagram) {o o₁ o₂ o₃ o₄ : List ℕ} {at a b c e groups : ℕ} (eg : groups ≡ length (all_groups d)) where
+module _ (d : Diagram) {o o₁ o₂ o₃ o₄ : Output ℕ} {groups : ℕ} (eg : groups ≡ length (all_groups d)) where
   -- the bounds of the types, of the predicates and of the roles, then `x` for each group
-  all-sets : {types preds roles : List ℕ} (x : ℕ) → Wrote o at types o₁ a → Wrote o₁ a preds o₂ b → Wrote o₂ b roles o₃ c
-      → Wrote o₃ c (replicate groups x) o₄ e → Wrote o at (types ++ preds ++ roles ++ map (λ (f : Frequency). x) (all_groups d)) o₄ e
+  all-sets : {types preds roles : List ℕ} (x : ℕ) → Wrote o types o₁ → Wrote o₁ preds o₂ → Wrote o₂ roles o₃
+      → Wrote o₃ (replicate groups x) o₄ → Wrote o (types ++ preds ++ roles ++ map (λ (f : Frequency). x) (all_groups d)) o₄
   all-sets x w₁ w₂ w₃ w₄ =
-      let w₄' : Wrote o₃ c (map (λ (f : Frequency). x) (all_groups d)) o₄ e =
+      let w₄' : Wrote o₃ (map (λ (f : Frequency). x) (all_groups d)) o₄ =
       wrote_as w₄ (ap (λ (n : ℕ). replicate n x) eg ∙ sym (map_same x (all_groups d))) in
       wrote_then (wrote_then (wrote_then w₁ w₂) w₃) w₄'
 
-  pub lower_is : Wrote o at (map (λ (t : ObjectType). t.min) d.types) o₁ a
-      → Wrote o₁ a (map (λ (p : Predicate). p.min) d.preds) o₂ b → Wrote o₂ b (map (λ (r : Role). r.rmin) (all_roles d)) o₃ c
-      → Wrote o₃ c (replicate groups 1) o₄ e → Wrote o at (lower d) o₄ e
+  pub lower_is : Wrote o (map (λ (t : ObjectType). t.min) d.types) o₁
+      → Wrote o₁ (map (λ (p : Predicate). p.min) d.preds) o₂ → Wrote o₂ (map (λ (r : Role). r.rmin) (all_roles d)) o₃
+      → Wrote o₃ (replicate groups 1) o₄ → Wrote o (lower d) o₄
   unfolding lower
   lower_is = all-sets 1
 
-  pub upper_is : Wrote o at (map upper_of_type d.types) o₁ a → Wrote o₁ a (map (λ (p : Predicate). p.max) d.preds) o₂ b
-      → Wrote o₂ b (map upper_of_role (all_roles d)) o₃ c → Wrote o₃ c (replicate groups 4096) o₄ e → Wrote o at (upper d) o₄ e
+  pub upper_is : Wrote o (map upper_of_type d.types) o₁ → Wrote o₁ (map (λ (p : Predicate). p.max) d.preds) o₂
+      → Wrote o₂ (map upper_of_role (all_roles d)) o₃ → Wrote o₃ (replicate groups 4096) o₄ → Wrote o (upper d) o₄
   unfolding upper
   upper_is = all-sets 4096

@@ -1,3 +1,4 @@
 pub mod Single
+pub mod Encoded
 pub mod Prepared
 pub mod Laws

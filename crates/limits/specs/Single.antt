@@ -1,18 +1,14 @@
--- Single limits that functions write.
-use Rattle.std.specs.Prelude.{ℕ, suc, ◌+◌, ◌≤◌, ◌≡◌, List, length}
+-- What single functions write and count.
+use Rattle.std.specs.Prelude.{ℕ, ◌+◌, ◌≤◌, ◌≡◌, List, ◌++◌, length}
 use Rattle.orm.specs.Diagram.{all_roles, all_groups}
-use Rattle.fixpoint.specs.Limits.{Limit, product, sum}
-use Rattle.orm.specs.Sets.{Placed, group_set, group_roles, first_role}
+use Rattle.counting.specs.Lists.{up_from}
+use Rattle.orm.specs.Sets.{Placed, group_roles, first_role}
 use Rattle.table.specs.Positions.{diagram_of}
-use Rattle.selection.specs.Selected.{positions, Types}
+use Rattle.selection.specs.Selected.{Types}
 
--- 'q at most the product of its p'
-abbrev pub limit_of_group : Placed → ℕ → Limit
-limit_of_group x number = record { target = group_set x number; most = product (group_roles x number) }
-
--- 'a at most the sum of the roles it plays itself', of the type with this set, by the types of all roles and the first role's set
-abbrev pub limit_of_types : List ℕ → ℕ → ℕ → Limit
-limit_of_types types first a = record { target = a; most = sum (positions (suc a) first types) }
+-- So many groups of a predicate, and the roles in its group with this number; 0: in no group
+abbrev pub parts_in : Placed → ℕ → ℕ → List ℕ
+parts_in x groups number = up_from x.groups groups ++ group_roles x number
 
 -- How many roles and groups a table's diagram has
 pub record Counted (t : List ℕ) (roles groups : ℕ) : Type 0 where

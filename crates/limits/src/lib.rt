@@ -1,46 +1,42 @@
 // What the rounds of a valid table's diagram start from: the lower and upper bounds of its sets and the
-// limits between them, written into lent arrays. Limits are numbers, as specs/Encoding.antt of lowering
-// says.
+// limits between them, written into lent arrays.
 #![tactic(auto)]
 
 mod preds;
 mod ranges;
 mod roles;
-mod single;
 mod types;
+mod writer;
 
 ghost use Rattle.std.specs.Prelude.{◌≡◌, ◌≤◌, length, replicate};
 ghost use Rattle.orm.specs.Diagram.{all_roles, all_groups};
 ghost use Rattle.orm.specs.Sets.{lower, upper, limits};
-ghost use Rattle.selection.specs.Selected.{Types};
-ghost use Rattle.lowering.specs.Encoding.{encode};
-ghost use Rattle.buffer.specs.Written.{Wrote};
+ghost use Rattle.selection.specs.Selected.{types_of, Types};
+ghost use Rattle.limits.specs.Encoded.{Encoded};
+ghost use Rattle.buffer.specs.Written.{WroteAll};
 ghost use Rattle.table.specs.Positions.{diagram_of, Walkable};
-ghost use Rattle.limits.specs.Prepared.{most_sets, most_limits, ValidTotals, Listable, types_in, Roomy, Prepared};
+ghost use Rattle.limits.specs.Prepared.{most_sets, ValidTotals, Listable, types_in, Roomy, Prepared};
 
 use crate::preds::push_preds;
-use crate::ranges::{pred_lowers, pred_uppers, type_lowers, type_uppers};
-use crate::roles::{role_lowers, role_uppers};
+use crate::ranges::{push_pred_lowers, push_pred_uppers, push_type_lowers, push_type_uppers};
+use crate::roles::{push_role_lowers, push_role_uppers};
 use crate::types::push_types;
+use buffer::Output;
+use lowering::{Limit, Most};
+pub use writer::Writer;
 
-// No diagram has more sets, and the limits of none take more numbers.
+// No diagram has more sets, more limits, or more operands of products and sums.
 pub const MOST_SETS: usize = 208;
 
-pub const MOST_LIMITS: usize = 3776;
+pub const MOST_LIMITS: usize = 624;
 
-// How many sets a diagram has, and how many numbers its limits take.
-#[derive(Clone, Copy)]
-pub struct Extent {
-    pub sets: usize,
-    pub limits: usize,
-}
+pub const MOST_OPERANDS: usize = 768;
 
-// Room for the limits of every diagram.
-pub fn limit_space() -> [u32; MOST_LIMITS]
-    ensures { result ≡ replicate most_limits 0 }
-{
-    [0u32; MOST_LIMITS]
-}
+// No limit as yet.
+pub const NO_LIMIT: Limit = Limit {
+    target: 0,
+    most: Most::Size { set: 0 },
+};
 
 // Room for a number of each set of every diagram.
 pub fn set_space() -> [u32; MOST_SETS]
@@ -58,68 +54,81 @@ pub fn count(x: usize) -> u32
 }
 
 // The lower bounds of all sets of a table with so many groups.
-fn write_lower(t: &[u32], groups: u32, out: &mut [u32]) -> usize
+fn write_lower(t: &[u32], groups: u32, buffer: &mut [u32]) -> usize
     requires walkable { Walkable t.now }
     requires groups_value { groups ≡ length (all_groups (diagram_of t.now)) }
-    ensures { Wrote out.old 0 (lower (diagram_of t.now)) out.new result }
+    ensures { WroteAll buffer.old (lower (diagram_of t.now)) buffer.new result }
 {
-    let a = type_lowers(t, out, 0);
-    let b = pred_lowers(t, out, a);
-    let c = role_lowers(t, out, b);
-    buffer::fill(out, c, groups, 1)
+    let mut out = Output::new(buffer);
+    push_type_lowers(&mut out, t);
+    push_pred_lowers(&mut out, t);
+    push_role_lowers(&mut out, t);
+    out.fill(groups, 1);
+    out.at
 }
 
 // The upper bounds that the rounds start from.
-pub fn write_upper(t: &[u32], groups: u32, out: &mut [u32]) -> usize
+pub fn write_upper(t: &[u32], groups: u32, buffer: &mut [u32]) -> usize
     requires walkable { Walkable t.now }
     requires groups_value { groups ≡ length (all_groups (diagram_of t.now)) }
-    ensures { Wrote out.old 0 (upper (diagram_of t.now)) out.new result }
+    ensures { WroteAll buffer.old (upper (diagram_of t.now)) buffer.new result }
 {
-    let a = type_uppers(t, out, 0);
-    let b = pred_uppers(t, out, a);
-    let c = role_uppers(t, out, b);
-    buffer::fill(out, c, groups, 4096)
+    let mut out = Output::new(buffer);
+    push_type_uppers(&mut out, t);
+    push_pred_uppers(&mut out, t);
+    push_role_uppers(&mut out, t);
+    out.fill(groups, 4096);
+    out.at
 }
 
 // The limits of all sets of a table with so many roles, with the types of all roles at hand.
-fn write_limits(t: &[u32], roles: u32, types: &[u32], out: &mut [u32]) -> usize
+fn write_limits(t: &[u32], roles: u32, types: &[u32], out: &mut Writer<'_>)
     requires walkable { Walkable t.now }
     requires roles_value { roles ≡ length (all_roles (diagram_of t.now)) }
     requires types { Types t.now types.now }
-    ensures { Wrote out.old 0 (encode (limits (diagram_of t.now))) out.new result }
+    ensures { Encoded out.old (limits (diagram_of t.now)) out.new }
 {
-    let a = push_preds(t, roles, out, 0);
-    push_types(t, types, table::first_role(t), out, a)
+    push_preds(t, roles, out);
+    push_types(t, types, table::first_role(t), out);
+}
+
+// The types of all roles.
+fn write_types(t: &[u32], buffer: &mut [u32]) -> usize
+    requires { Walkable t.now }
+    ensures { WroteAll buffer.old (types_of (all_roles (diagram_of t.now))) buffer.new result }
+{
+    let mut out = Output::new(buffer);
+    selection::push_all_types(t, &mut out);
+    out.at
 }
 
 // The limits of the diagram of a table with so many roles; `types` is scratch for the types of these.
-pub fn limits_of(t: &[u32], roles: u32, types: &mut [u32], out: &mut [u32]) -> usize
+pub fn limits_of(t: &[u32], roles: u32, types: &mut [u32], out: &mut Writer<'_>)
     requires { Listable t.now roles types.old }
-    ensures wrote { Wrote out.old 0 (encode (limits (diagram_of t.now))) out.new result }
+    ensures encoded { Encoded out.old (limits (diagram_of t.now)) out.new }
     ensures types_after { types.new ≡ types_in t.now types.old }
 {
-    let n = selection::write_types(t, types);
-    write_limits(t, roles, &types[..n], out)
+    let n = write_types(t, types);
+    write_limits(t, roles, &types[..n], out);
 }
 
-// The limits and bounds of the diagram of a table with so many roles and groups, at the fronts of
-// `limits`, `lower` and `upper`; `types` is scratch for the types of its roles.
+// The limits and bounds of the diagram of a table with so many roles and groups, the bounds at the fronts of
+// `lower` and `upper`, and how many sets there are; `types` is scratch for the types of the roles.
 pub fn prepare(
     t: &[u32],
     roles: u32,
     groups: u32,
     types: &mut [u32],
-    limits: &mut [u32],
+    out: &mut Writer<'_>,
     lower: &mut [u32],
     upper: &mut [u32],
-) -> Extent
+) -> usize
     requires valid_totals { ValidTotals t.now roles groups }
-    requires roomy { Roomy t.now types.old limits.old lower.old upper.old }
-    ensures { Prepared t.now types.old limits.old lower.old upper.old result
-        types.new limits.new lower.new upper.new }
+    requires roomy { Roomy t.now types.old lower.old upper.old }
+    ensures { Prepared t.now types.old out.old lower.old upper.old result types.new out.new
+        lower.new upper.new }
 {
-    let m = limits_of(t, roles, types, limits);
+    limits_of(t, roles, types, out);
     write_lower(t, groups, lower);
-    let sets = write_upper(t, groups, upper);
-    Extent { sets, limits: m }
+    write_upper(t, groups, upper)
 }

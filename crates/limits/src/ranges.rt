@@ -6,6 +6,8 @@ ghost use Rattle.orm.specs.Sets.{upper_of_type};
 ghost use Rattle.buffer.specs.Written.{Wrote};
 ghost use Rattle.table.specs.Positions.{diagram_of, Walkable};
 
+use buffer::Output;
+
 // How many values first..last are; at least 1.
 fn values(first: u32, last: u32) -> u32
     requires { last ≤ 999999 }
@@ -28,62 +30,50 @@ fn type_upper(t: &[u32], p: usize) -> u32
     if v < most { v } else { most }
 }
 
-pub fn type_lowers(t: &[u32], out: &mut [u32], at: usize) -> usize
+pub fn push_type_lowers(out: &mut Output<'_, u32>, t: &[u32])
     requires { Walkable t.now }
-    ensures { Wrote out.old at (map (λ (x : ObjectType). x.min) (diagram_of t.now).types) out.new result }
+    ensures { Wrote out.old (map (λ (x : ObjectType). x.min) (diagram_of t.now).types) out.new }
 {
-    let mut left = table::type_count(t);
+    let count = table::type_count(t);
     let mut p = 2;
-    let mut to = at;
-    while 0 < left {
-        to = buffer::push(out, to, table::number(t, p, 0));
+    for _ in 0..count {
+        out.push(table::number(t, p, 0));
         p += 6;
-        left -= 1;
     }
-    to
 }
 
-pub fn type_uppers(t: &[u32], out: &mut [u32], at: usize) -> usize
+pub fn push_type_uppers(out: &mut Output<'_, u32>, t: &[u32])
     requires { Walkable t.now }
-    ensures { Wrote out.old at (map upper_of_type (diagram_of t.now).types) out.new result }
+    ensures { Wrote out.old (map upper_of_type (diagram_of t.now).types) out.new }
 {
-    let mut left = table::type_count(t);
+    let count = table::type_count(t);
     let mut p = 2;
-    let mut to = at;
-    while 0 < left {
-        to = buffer::push(out, to, type_upper(t, p));
+    for _ in 0..count {
+        out.push(type_upper(t, p));
         p += 6;
-        left -= 1;
     }
-    to
 }
 
-pub fn pred_lowers(t: &[u32], out: &mut [u32], at: usize) -> usize
+pub fn push_pred_lowers(out: &mut Output<'_, u32>, t: &[u32])
     requires { Walkable t.now }
-    ensures { Wrote out.old at (map (λ (x : Predicate). x.min) (diagram_of t.now).preds) out.new result }
+    ensures { Wrote out.old (map (λ (x : Predicate). x.min) (diagram_of t.now).preds) out.new }
 {
-    let mut left = table::pred_count(t);
+    let count = table::pred_count(t);
     let mut p = table::first_pred(t);
-    let mut to = at;
-    while 0 < left {
-        to = buffer::push(out, to, table::number(t, p, 0));
+    for _ in 0..count {
+        out.push(table::number(t, p, 0));
         p = table::next_pred(t, p);
-        left -= 1;
     }
-    to
 }
 
-pub fn pred_uppers(t: &[u32], out: &mut [u32], at: usize) -> usize
+pub fn push_pred_uppers(out: &mut Output<'_, u32>, t: &[u32])
     requires { Walkable t.now }
-    ensures { Wrote out.old at (map (λ (x : Predicate). x.max) (diagram_of t.now).preds) out.new result }
+    ensures { Wrote out.old (map (λ (x : Predicate). x.max) (diagram_of t.now).preds) out.new }
 {
-    let mut left = table::pred_count(t);
+    let count = table::pred_count(t);
     let mut p = table::first_pred(t);
-    let mut to = at;
-    while 0 < left {
-        to = buffer::push(out, to, table::number(t, p, 1));
+    for _ in 0..count {
+        out.push(table::number(t, p, 1));
         p = table::next_pred(t, p);
-        left -= 1;
     }
-    to
 }

@@ -4,7 +4,7 @@ use Rattle.std.specs.declared.option.Option.{Option}
 use Rattle.std.specs.Io.KnownBytes.{Appends, Consumes, IsAtEnd}
 use Rattle.std.proofs.Math.Decide.{dec_lt}
 use Rattle.std.proofs.lemmas.List.{take_at}
-use Rattle.buffer.specs.Written.{Wrote}
+use Rattle.buffer.specs.Written.{WroteAll}
 use Rattle.lines_main.specs.Report.{report}
 use Rattle.lines_main.specs.Whole.{report-whole}
 
@@ -23,7 +23,7 @@ front-is xs front rest e most end = go (dec_lt (length front) 4096)
 -- The first `n` bytes of `space` were read into it, and `out` had room for the report on them
 pub read-front : (known left : Option (List ℕ)) (space o out : List ℕ) (n to : ℕ) → Consumes known left (take n space)
     → (n < length space → IsAtEnd left) → length space ≡ 4096 → n ≤ length space → n ≡ length (take n space) → 65536 ≤ length o
-    → Wrote o 0 (report (take n space)) out to → IfSome known (λ xs. take to out ≡ report (take 4096 xs))
+    → WroteAll o (report (take n space)) out to → IfSome known (λ xs. take to out ≡ report (take 4096 xs))
 read-front None left space o out n to c end long within en room w = tt
 read-front (Some xs) None space o out n to c end long within en room w = absurd c
 read-front (Some xs) (Some rest) space o out n to c end long within en room w =

@@ -5,7 +5,7 @@ use Rattle.std.proofs.Common.{arith, ap, ◌∙◌, length-append}
 use Rattle.orm.specs.LineReader.{NextLine, no_line, line_at, next_line, position_after}
 use Rattle.orm.specs.Text.{bytes, decimal, separator, values_text, line_text}
 use Rattle.reading.specs.Decimal.{decimal-small, decimal-large}
-use Rattle.buffer.specs.Written.{Wrote}
+use Rattle.buffer.specs.Written.{WroteAll}
 use Rattle.buffer.specs.Laws.{wrote-front}
 use Rattle.lines.specs.Laws.NextLine.{NextIs, none_left, line, next-is, line-inside}
 use Rattle.lines_main.specs.Report.{entry, left_text, report_within, report}
@@ -80,7 +80,7 @@ within-short (suc k) text offset short inside = go (next_line text offset) (next
 
 -- The theorem: what is written is the report
 pub report-whole : (text o o' : List ℕ) (to : ℕ) → length text ≤ 4096 → 65536 ≤ length o
-    → Wrote o 0 (report text) o' to → take to o' ≡ report text
+    → WroteAll o (report text) o' to → take to o' ≡ report text
 unfolding report
 report-whole text o o' to short room w =
     let l : length (report text) ≤ 15 * suc (length text) = within-short (length text) text 0 short (omega arith) in

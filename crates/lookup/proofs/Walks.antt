@@ -1,100 +1,74 @@
 -- Walks over a column and over marks: what was tested or met and what is left come to all.
-use Prim.Native.Nat.{ℕ, suc, ◌+◌, ◌*◌, ◌-◌, ◌≤◌, ◌<◌}
-use native.Mathlib.Nat.{suc-mul}
+use Prim.Native.Nat.{ℕ, suc, ◌+◌, ◌-◌, ◌≤◌, ◌<◌}
 use native.Mathlib.Omega.{arith}
 use native.Mathlib.Numerals.{add-one}
 use mathlib.Core.Path.{◌≡◌, refl, sym, ap, ◌∙◌}
-use mathlib.Core.Bool.{Bool, true, false, not, false≢true}
-use mathlib.Core.List.{List, [], ◌∷◌, ◌++◌, append-nil}
+use mathlib.Core.Bool.{Bool, true, false, not, ◌&&◌, ◌||◌, false≢true}
+use mathlib.Core.List.{List, [], ◌∷◌}
 use lib.Dec.{eqb}
-use lib.ListN.{length, get_or, drop, set, length-set, replicate, drop_of_length-le}
-use lib.Seq.{set-get_or, get_or-set_same, get_or-set_other, drop-cons, drop-length}
+use lib.ListN.{length, get_or, drop, set, length-set, drop_of_length-le}
+use lib.Seq.{set-get_or, get_or-set_same, get_or-set_other, drop-cons}
 use borrow.Author.Tests.{eq-eqb, ne_eqb, eqb-true, eqb-false}
-use borrow.Author.Fill.{fill_more}
 use Rattle.counting.specs.Totals.{bit}
 use Rattle.counting.specs.Terms.{◌∈◌}
 use Rattle.counting.specs.Distinct.{member, distinct, within, all}
 use Rattle.counting.proofs.Laws.Members.{get_or_in}
 use Rattle.counting.proofs.Laws.Distinct.{length-distinct-cons, member_decides}
 use Rattle.counting.proofs.Laws.Instances.{eqb_decides}
-use Rattle.sorting.specs.Rising.{Rising}
 use Rattle.sorting.proofs.Rising.{rising-apart}
 use Rattle.sorting.specs.Search.{place_of}
-use Rattle.sorting.proofs.Search.{place_in, place-holds, place_lt}
-use Rattle.columns.specs.declared.Column.{Column}
-use Rattle.columns.specs.Values.{spaced, values_in}
-use Rattle.columns.specs.Walks.{value-here, spaced-more, spaced-none, next_here}
-use Rattle.columns.specs.Reach.{Reached, value-reached}
+use Rattle.sorting.proofs.Search.{place_in, place-holds}
+use Rattle.order.specs.Steps.{placed}
+use Rattle.std.specs.Prelude.{Option, Some, None}
+use Rattle.std.specs.Option.{is_some}
+use Rattle.std.specs.Bool.{then_some}
+use Rattle.std.specs.List.{list_any}
+use Rattle.columns.specs.declared.column.Column.{Column}
+use Rattle.columns.specs.Values.{values_in, length-spaced}
 use Rattle.lookup.specs.declared.Met.{Met}
 use Rattle.lookup.specs.Stamps.{stamped_if, among, Marked, is_set, member-among}
-use Rattle.lookup.specs.Counts.{Fresh, Looked, Next}
+use Rattle.lookup.specs.Counts.{Fresh, Looking, Looked, Next, looked-all}
 
 -- ---- whether all values of a column are members
 
-absent : (x : ℕ) (ws : List ℕ) → Rising ws → length ws ≤ place_of x ws → member eqb x ws ≡ false
-absent x ws r h = go (member eqb x ws) refl
-  where
-    go : (b : Bool) → member eqb x ws ≡ b → member eqb x ws ≡ false
-    go true q = absurd (omega (arith, place_in x ws r q))
-    go false q = q
+module _ (c : Column) (ws : List ℕ) where
+  pub record WithinLeft (i : ℕ) : Type 0 where
+    pub left : within eqb (drop i (values_in c)) ws ≡ within eqb (values_in c) ws
 
-module _ (s : List ℕ) (c : Column) (ws : List ℕ) (at left : ℕ) where
-  abbrev pub WithinLeft : Type 0
-  WithinLeft = within eqb (spaced left c.step (drop at s)) ws ≡ within eqb (values_in s c) ws
+  long : length (values_in c) ≡ c.count
+  long = length-spaced c.count c.step (drop c.start c.cells.now)
 
-  pub within_none : WithinLeft → left ≤ 0 → true ≡ within eqb (values_in s c) ws
-  unfolding within
-  within_none w h = rw (spaced-none c.step left (drop at s) h, within) at w
-
-  module _ {v i : ℕ} (w : WithinLeft) (h : 0 < left) (e : v ≡ get_or (drop at s) 0 0) (q : i ≡ place_of v ws) (r : Rising ws) where
-    pub within-not : length ws ≤ i → false ≡ within eqb (values_in s c) ws
+  module _ (i : ℕ) (w : WithinLeft i) where
+    pub within_none : c.count ≤ i → true ≡ within eqb (values_in c) ws
     unfolding within
-    within-not l = rw (spaced-more c.step left (drop at s) h, within, ← e, absent v ws r (omega arith)) at w
+    within_none h = let k : length (values_in c) ≤ i = omega (arith, long) in rw (drop_of_length-le (values_in c) k) at w.left
 
-    pub within_more : (next : ℕ) → i < length ws → drop next s ≡ drop c.step (drop at s)
-        → within eqb (spaced (left - 1) c.step (drop next s)) ws ≡ within eqb (values_in s c) ws
-    unfolding within
-    within_more next l z =
-        let p : member eqb v ws ≡ true = place_lt v ws (omega arith) in
-        rw z (rw (spaced-more c.step left (drop at s) h, within, ← e, p) at w)
+    module _ {v : ℕ} {o : Option ℕ} (b : Bool) (h : i < c.count) (e : v ≡ get_or (values_in c) i 0) (q : o ≡ placed v ws) (n : is_some o ≡ not b) where
+      opened : (member eqb v ws && within eqb (drop (suc i) (values_in c)) ws) ≡ within eqb (values_in c) ws
+      unfolding within
+      opened = rw e (rw (drop-cons (values_in c) i 0 (omega (arith, long)), within) at w.left)
 
--- ---- marks
+      there : not b ≡ member eqb v ws
+      there = sym n ∙ ap is_some q ∙ go (member eqb v ws)
+        where
+          go : (m : Bool) → is_some {T = ℕ} (elim m [ true ↦ Some (place_of v ws) | false ↦ None ]) ≡ m
+          go true = refl
+          go false = refl
 
-module _ (ms : List ℕ) (i : ℕ) where
-  abbrev pub MetLeft : Type 0
-  MetLeft = all is_set (drop i ms) ≡ all is_set ms
+      pub within-not : b ≡ true → false ≡ within eqb (values_in c) ws
+      within-not z = rw (← there, z) at opened
 
-  pub met-none : MetLeft → length ms ≤ i → true ≡ all is_set ms
-  unfolding all
-  met-none w h = rw (drop_of_length-le ms h) at w
-
-  module _ {v : ℕ} (w : MetLeft) (h : i < length ms) (q : v ≡ get_or (drop i ms) 0 0) where
-    e : v ≡ get_or ms i 0
-    e = q ∙ sym (value-here ms i)
-
-    pub met-not : v ≡ 0 → false ≡ all is_set ms
-    unfolding all is_set
-    met-not z = rw (drop-cons ms i 0 h, all, ← e, z) at w
-
-    pub met-more : (v ≡ 0 → ⊥) → all is_set (drop (i + 1) ms) ≡ all is_set ms
-    unfolding all is_set
-    met-more n = rw add-one (rw (drop-cons ms i 0 h, all, ← e, is_set, ne_eqb v 0 n) at w)
-
-module _ (ms₀ ms : List ℕ) (i : ℕ) (c : ms ≡ replicate i 0 ++ drop i ms₀) where
-  pub cleared_more : length ms ≡ length ms₀ → i < length ms → set ms i 0 ≡ replicate (i + 1) 0 ++ drop (i + 1) ms₀
-  cleared_more e h = rw c (fill_more i 0 ms₀ (omega arith))
-
-  pub cleared-all : i ≤ length ms₀ → length ms ≡ length ms₀ → length ms ≤ i → ms ≡ replicate (length ms₀) 0
-  cleared-all l e h = let q : i ≡ length ms₀ = omega arith in rw (c, q, drop-length, append-nil)
+      pub within_more : b ≡ false → WithinLeft (i + 1)
+      within_more z = record { left = rw add-one (rw (← there, z) at opened) }
 
 -- ---- one value met
 
-module _ (ws ms : List ℕ) (k x : ℕ) (met : Met) {i : ℕ} (e : i ≡ place_of x ws) (h : Marked ws ms) where
+module _ (ws ms : List ℕ) (k x : ℕ) (met : Met) {o : Option ℕ} (e : o ≡ placed x ws) (h : Marked ws ms) where
   -- it is no member
-  pub next-absent : length ms ≤ i → Next ws k x ms met ms (record { all = false; count = met.count })
+  pub next-absent : ((i : ℕ) → o ≡ Some i → ⊥) → Next ws k x ms met ms (record { all = false; count = met.count })
   unfolding within member among
-  next-absent l =
-      let no : member eqb x ws ≡ false = absent x ws h.rising (omega (arith, h.long)) in
+  next-absent n =
+      let no : member eqb x ws ≡ false = go (member eqb x ws) refl e in
       let never : (w : ℕ) → w ∈ ws → ¬ (w ≡ x) = λ w m z. false≢true (sym no ∙ (member_decides eqb_decides x ws).1 (rw z at m)) in
       record {
         looked = λ ms₀ vs f p. record {
@@ -104,13 +78,28 @@ module _ (ws ms : List ℕ) (k x : ℕ) (met : Met) {i : ℕ} (e : i ≡ place_o
           count = rw (among, no) p.count;
         };
       }
+    where
+      go : (b : Bool) → member eqb x ws ≡ b → ◌≡◌ {A = Option ℕ} o (elim b [ true ↦ Some (place_of x ws) | false ↦ None ]) → b ≡ false
+      go true m q = absurd (n _ q)
+      go false m q = refl
 
-  module _ (l : i < length ms) where
+  module _ {i : ℕ} (some : o ≡ Some i) where
+    found : (member eqb x ws ≡ true) × (i ≡ place_of x ws)
+    found = go (member eqb x ws) refl (sym some ∙ e)
+      where
+        go : (b : Bool) → member eqb x ws ≡ b → ◌≡◌ {A = Option ℕ} (Some i) (elim b [ true ↦ Some (place_of x ws) | false ↦ None ])
+            → (b ≡ true) × (i ≡ place_of x ws)
+        go true m q = (refl, cc)
+        go false m q = let z : ◌≡◌ {A = ℕ} 0 1 = cc in absurd (omega arith)
+
     present : member eqb x ws ≡ true
-    present = place_lt x ws (omega (arith, h.long))
+    present = found.0
+
+    pub place-marked : i < length ms
+    place-marked = omega (arith, found.1, place_in x ws h.rising present, h.long)
 
     holds : get_or ws i 0 ≡ x
-    holds = rw e (place-holds x ws h.rising present)
+    holds = rw found.1 (place-holds x ws h.rising present)
 
     -- it is a member, and its mark becomes k
     next-is : (met' : Met) → met'.all ≡ met.all → met'.count ≡ met.count + bit (not (eqb (get_or ms i 0) k)) → Next ws k x ms met (set ms i k) met'
@@ -125,71 +114,71 @@ module _ (ws ms : List ℕ) (k x : ℕ) (met : Met) {i : ℕ} (e : i ≡ place_o
           });
     }
       where
-        seen : (ms₀ vs : List ℕ) → Fresh ws ms₀ k → Looked ws ms₀ k vs ms met → member eqb x vs ≡ eqb (get_or ms i 0) k
-        seen ms₀ vs f p = go (member eqb x vs) (rw holds at (p.mark i (omega (arith, h.long))))
+        seen : (ms₀ vs : List ℕ) → Fresh ws ms₀ k → Looking ws ms₀ k vs ms met → member eqb x vs ≡ eqb (get_or ms i 0) k
+        seen ms₀ vs f p = go (member eqb x vs) (rw holds at (p.mark i (omega (arith, h.long, place-marked))))
           where
             go : (b : Bool) → get_or ms i 0 ≡ stamped_if b k (get_or ms₀ i 0) → b ≡ eqb (get_or ms i 0) k
             go true q = sym (eq-eqb _ _ q)
-            go false q = sym (ne_eqb (get_or ms i 0) k (λ z. omega (arith, f.below i (omega (arith, f.marked.long, h.long)))))
+            go false q = sym (ne_eqb (get_or ms i 0) k (λ z. omega (arith, f.below i (omega (arith, f.marked.long, h.long, place-marked)))))
 
         set-mark : (ms₀ vs : List ℕ) (j : ℕ) → j < length ws → get_or ms j 0 ≡ stamped_if (member eqb (get_or ws j 0) vs) k (get_or ms₀ j 0)
             → (b : Bool) → eqb j i ≡ b → get_or (set ms i k) j 0 ≡ stamped_if (member eqb (get_or ws j 0) (x ∷ vs)) k (get_or ms₀ j 0)
-        set-mark ms₀ vs j b p true q = let z : j ≡ i = eqb-true j i q in rw (z, holds, member, eq-eqb x x refl) (get_or-set_same ms i k 0 l)
+        set-mark ms₀ vs j b p true q = let z : j ≡ i = eqb-true j i q in rw (z, holds, member, eq-eqb x x refl) (get_or-set_same ms i k 0 place-marked)
         set-mark ms₀ vs j b p false q =
-            let n : ¬ (get_or ws j 0 ≡ x) = λ z. eqb-false j i q (rising-apart ws j i h.rising b (omega (arith, h.long)) (z ∙ sym holds)) in
+            let n : ¬ (get_or ws j 0 ≡ x) = λ z. eqb-false j i q (rising-apart ws j i h.rising b (omega (arith, h.long, place-marked)) (z ∙ sym holds)) in
             rw (member, ne_eqb (get_or ws j 0) x n) (get_or-set_other ms i j k 0 (eqb-false j i q) ∙ p)
 
-    module _ {v : ℕ} (q : v ≡ get_or (drop i ms) 0 0) where
-      -- it has the stamp already
-      pub next_again : v ≡ k → Next ws k x ms met ms met
-      unfolding bit
-      next_again z =
-          let m : get_or ms i 0 ≡ k = value-here ms i ∙ sym q ∙ z in
-          let same : set ms i k ≡ ms = rw (← m) (set-get_or ms i 0) in
-          rw same at (next-is met refl (rw (eq-eqb (get_or ms i 0) k m) (omega arith)))
+    -- it has the stamp already
+    pub next_again : get_or ms i 0 ≡ k → Next ws k x ms met ms met
+    unfolding bit
+    next_again m =
+        let same : set ms i k ≡ ms = rw (← m) (set-get_or ms i 0) in
+        rw same at (next-is met refl (rw (eq-eqb (get_or ms i 0) k m) (omega arith)))
 
-      pub next-new : (v ≡ k → ⊥) → Next ws k x ms met (set ms i k) (record { all = met.all; count = met.count + 1 })
-      unfolding bit
-      next-new n = next-is _ refl (rw (ne_eqb (get_or ms i 0) k (λ z. n (q ∙ sym (value-here ms i) ∙ z))))
+    pub next-new : (get_or ms i 0 ≡ k → ⊥) → Next ws k x ms met (set ms i k) (record { all = met.all; count = met.count + 1 })
+    unfolding bit
+    next-new n = next-is _ refl (rw (ne_eqb (get_or ms i 0) k n))
 
--- ---- a column met
+-- ---- values met, from the last on: all but the first `left` were looked up
 
-module _ (s : List ℕ) (c : Column) (ws ms₀ : List ℕ) (k : ℕ) where
-  -- All but the first `left` values were looked up
+module _ (vs ws ms₀ : List ℕ) (k : ℕ) where
   pub record Meeting (ms : List ℕ) (left : ℕ) (met : Met) : Type 0 where
-    pub looked : Looked ws ms₀ k (spaced (c.count - left) c.step (drop (c.start + left * c.step) s)) ms met
+    pub few : met.count + left ≤ length vs
+    pub looked : Looking ws ms₀ k (drop left vs) ms met
 
-  pub meeting_start : (met : Met) → Fresh ws ms₀ k → met.all ≡ true → met.count ≡ 0 → Meeting ms₀ c.count met
+  pub meeting_start : {n : ℕ} → Fresh ws ms₀ k → n ≡ length vs → Meeting ms₀ n (record { all = true; count = 0 })
   unfolding within member distinct among
-  meeting_start met f a n =
-      let none : spaced (c.count - c.count) c.step (drop (c.start + c.count * c.step) s) ≡ [] = spaced-none c.step _ _ (omega arith) in
-      record { looked = rw none (record { marked = f.marked; mark = λ j b. refl; all = a; count = n }) }
+  meeting_start {n} f e = record {
+    few = omega arith;
+    looked = (let h : length vs ≤ n = omega arith in rw (drop_of_length-le vs h) (record { marked = f.marked; mark = λ j b. refl; all = refl; count = refl }));
+  }
 
   module _ (ms : List ℕ) (left : ℕ) (met : Met) (i : Meeting ms left met) where
-    pub meeting_more : {x : ℕ} (ms' : List ℕ) (met' : Met) → Next ws k x ms met ms' met' → Fresh ws ms₀ k → met.count + left ≤ c.count → 0 < left
-        → x ≡ get_or (drop (c.start + (left - 1) * c.step) s) 0 0 → Meeting ms' (left - 1) met'
-    meeting_more {x} ms' met' n f b h v =
+    pub meeting-small : length vs < 4294967296 → 0 < left → met.count < 18446744073709551615
+    meeting-small h l = omega (arith, i.few)
+
+    pub meeting_more : {x : ℕ} {ms' : List ℕ} {met' : Met} → Next ws k x ms met ms' met' → Fresh ws ms₀ k → 0 < left
+        → met'.count ≤ met.count + 1 → x ≡ get_or vs (left - 1) 0 → Meeting ms' (left - 1) met'
+    meeting_more {x} {ms'} {met'} n f h b v =
         let e : left ≡ suc (left - 1) = omega arith in
-        let t : left * c.step ≡ (left - 1) * c.step + c.step = ap (λ (m : ℕ). m * c.step) e ∙ suc-mul (left - 1) c.step in
-        let a : c.start + left * c.step ≡ c.start + (left - 1) * c.step + c.step = omega arith in
-        let rest : drop (c.start + left * c.step) s ≡ drop c.step (drop (c.start + (left - 1) * c.step) s) = rw a (next_here s _ c.step) in
-        let one : c.count - (left - 1) - 1 ≡ c.count - left = omega arith in
-        record { looked = rw (spaced-more c.step (c.count - (left - 1)) _ (omega arith), ← v, one) (n.looked ms₀ _ f (rw rest at i.looked)) }
+        record {
+          few = omega (arith, i.few);
+          looked = rw (drop-cons vs (left - 1) 0 (omega (arith, i.few)), ← v) (n.looked ms₀ _ f (rw e at i.looked));
+        }
 
-    pub meeting_end : left ≤ 0 → Looked ws ms₀ k (values_in s c) ms met
-    meeting_end h =
-        let z : left ≡ 0 = omega arith in
-        let all : c.count - left ≡ c.count = omega arith in
-        let first : c.start + left * c.step ≡ c.start = rw z (omega arith) in
-        rw (all, first) at i.looked
+    pub meeting_end : {r : Option ℕ} → left ≤ 0 → r ≡ then_some met.all met.count → Looked ws ms₀ k vs ms r
+    meeting_end h e = let z : left ≡ 0 = omega arith in looked-all (rw z at i.looked) e
 
--- the value before those that were looked up is there
-module _ (s : List ℕ) (c : Column) (left : ℕ) (met : Met) (r : Reached s c) (b : met.count + left ≤ c.count) (h : 0 < left) where
-  pub before-reached : c.start + (left - 1) * c.step < length s
-  before-reached = value-reached s c r (left - 1) (omega arith)
+-- ---- marks
 
-  pub before-near : length s * 4 < 9223372036854775808 → c.start + (left - 1) * c.step < 18446744073709551616
-  before-near l = omega (arith, before-reached)
+all-set : (ms : List ℕ) → not (list_any (λ m. eqb m 0) ms) ≡ all is_set ms
+unfolding all is_set
+all-set [] = refl
+all-set (m ∷ ms) = go (eqb m 0) (all-set ms)
+  where
+    go : (b : Bool) → not (list_any (λ n. eqb n 0) ms) ≡ all is_set ms → not (b || list_any (λ n. eqb n 0) ms) ≡ (not b && all is_set ms)
+    go true h = refl
+    go false h = h
 
-  pub before-fits : length s * 4 < 9223372036854775808 → (left - 1) * c.step < 18446744073709551616
-  before-fits l = omega (arith, before-reached)
+pub all-marked : (ms : List ℕ) {b : Bool} → b ≡ list_any (λ m. eqb m 0) ms → not b ≡ all is_set ms
+all-marked ms e = ap not e ∙ all-set ms

@@ -12,22 +12,24 @@ use Rattle.pairing.specs.Pairing.{gcd_within, gcd, lcm}
 use Rattle.pairing.specs.Multiples.{multiple_rows}
 use Rattle.orm.specs.Text.{separator, decimal_within, decimal, values_text}
 use Rattle.orm.specs.MultiplesText.{multiples_text, line_numbers}
-use Rattle.buffer.specs.Written.{Wrote, Writing, Splits}
-use Rattle.buffer.specs.Laws.{writing-all, wrote-front, wrote-front-inside, wrote-front-counts}
+use Rattle.buffer.specs.Written.{WroteAll}
+use Rattle.buffer.specs.Laws.{wrote-front, wrote-inside, wrote-counts}
 use Rattle.guarantee.proofs.Multiples.Proof.{multiples_hold}
 use Rattle.multiples_main.specs.Rows.{row_text, rows_text}
 use Rattle.multiples_main.specs.Printed.{Printed}
 
 -- ---- the numbers of a row
 
-pub row_more : (a b n : ℕ) {m v : ℕ} → 0 < n → m ≡ n - 1 → v ≡ lcm a b
-    → Splits (row_text a b n) (decimal v ++ separator m ∷ []) (row_text a (b + 1) m)
+-- that of `b` comes next
+pub row_more : (a b : ℕ) {m v : ℕ} → b < 65 → m ≡ 64 - b → v ≡ lcm a b
+    → row_text a b (65 - b) ≡ (decimal v ++ separator m ∷ []) ++ row_text a (b + 1) (65 - (b + 1))
 unfolding row_text up_from values_text
-row_more a b zero h em ev = absurd (omega arith)
-row_more a b (suc n) {m} {v} h em ev =
+row_more a b {m} {v} h em ev =
+    let n : ℕ = 65 - (b + 1) in
+    let left : 65 - b ≡ suc n = omega arith in
     let e : m ≡ n = omega arith in
     let l : length (map (lcm a) (up_from (suc b) n)) ≡ n = length-map (up_from (suc b) n) (lcm a) ∙ length-up_from (suc b) n in
-    record { is = rw (e, ev, l, add-one) (sym (append_snoc (decimal (lcm a b)) (separator n) _)) }
+    rw left (rw (e, ev, l, add-one) (sym (append_snoc (decimal (lcm a b)) (separator (65 - suc b)) _)))
 
 pub row-none : (a b n : ℕ) → n ≤ 0 → row_text a b n ≡ []
 unfolding row_text up_from values_text
@@ -36,14 +38,13 @@ row-none a b (suc n) h = absurd (omega arith)
 
 -- ---- the rows
 
-pub rows_more : (a n : ℕ) → 0 < n → Splits (rows_text a n) (row_text a 1 64) (rows_text (a + 1) (n - 1))
+pub rows_more : (a : ℕ) → a < 65 → rows_text a (65 - a) ≡ row_text a 1 64 ++ rows_text (a + 1) (65 - (a + 1))
 unfolding rows_text row_text up_from flat_map
-rows_more a zero h = absurd (omega arith)
-rows_more a (suc n) h =
-    let e : suc n - 1 ≡ n = omega arith in
-    record { is = rw (e, add-one) }
+rows_more a h =
+    let left : 65 - a ≡ suc (65 - (a + 1)) = omega arith in
+    rw left (rw add-one refl)
 
-rows_none : (a n : ℕ) → n ≤ 0 → rows_text a n ≡ []
+pub rows_none : (a n : ℕ) → n ≤ 0 → rows_text a n ≡ []
 unfolding rows_text up_from flat_map
 rows_none a zero h = refl
 rows_none a (suc n) h = absurd (omega arith)
@@ -58,17 +59,17 @@ text-length : length (rows_text 1 64) ≡ 16697
 unfolding rows_text up_from flat_map gcd_within gcd lcm separator decimal_within decimal values_text
 text-length = refl
 
-module _ {o o' : List ℕ} {to : ℕ} (a left : ℕ) (w : Writing o 0 (rows_text 1 64) o' to (rows_text a left)) (end : left ≤ 0) where
-  wrote : Wrote o 0 (rows_text 1 64) o' to
-  wrote = writing-all w (rows_none a left end)
+module _ {o o' : List ℕ} {to : ℕ} (w : WroteAll o (rows_text 1 64) o' to) (enough : 16697 ≤ length o) where
+  room : length (rows_text 1 64) ≤ length o
+  room = omega (arith, text-length)
 
-  pub printed : 16697 ≤ length o → Printed (take to o')
-  printed room =
-      let e : take to o' ≡ multiples_text = wrote-front wrote (omega (arith, text-length)) ∙ rows-are-text in
+  pub printed : Printed (take to o')
+  printed =
+      let e : take to o' ≡ multiples_text = wrote-front w room ∙ rows-are-text in
       record { is = e; numbers = ap (line_numbers 64 64) e ∙ multiples_hold.output }
 
   pub printed-inside : to ≤ length o'
-  printed-inside = wrote-front-inside wrote
+  printed-inside = wrote-inside w
 
   pub printed-counts : to ≡ length (take to o')
-  printed-counts = wrote-front-counts wrote
+  printed-counts = wrote-counts w

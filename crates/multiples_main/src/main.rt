@@ -7,9 +7,10 @@ ghost use Rattle.std.specs.Io.KnownBytes.{Appends};
 ghost use Rattle.orm.specs.MultiplesText.{multiples_text};
 ghost use Rattle.buffer.specs.Written.{Wrote};
 ghost use Rattle.pairing.specs.Pairing.{lcm};
-ghost use Rattle.multiples_main.specs.Rows.{row_text};
+ghost use Rattle.multiples_main.specs.Rows.{row_text, rows_text};
 ghost use Rattle.multiples_main.specs.Printed.{Printed};
 
+use buffer::Output;
 use std::io;
 use std::io::Write;
 
@@ -22,43 +23,40 @@ fn main(rt: HostRuntime) -> io::Result<()> {
 fn write<W: Write>(writer: &mut W) -> io::Result<()>
     ensures { OnOk result (Appends (W.contents writer.old) (W.contents writer.new) multiples_text) }
 {
-    let mut out = [0u8; 65536];
+    let mut out = [0; 65536];
     let length = print(&mut out);
     writer.write_all(&out[..length])
 }
 
-// The text at the front of `out`; it has 16,697 bytes.
-fn print(out: &mut [u8]) -> usize
-    requires { 16697 ≤ length out.old }
-    ensures printed { Printed (take result out.new) }
-    ensures inside { result ≤ length out.new }
-    ensures counts { result ≡ length (take result out.new) }
+// The text at the front of the buffer; it has 16,697 bytes.
+fn print(buffer: &mut [u8]) -> usize
+    requires { 16697 ≤ length buffer.old }
+    ensures printed { Printed (take result buffer.new) }
+    ensures inside { result ≤ length buffer.new }
+    ensures counts { result ≡ length (take result buffer.new) }
 {
-    let mut a: u32 = 1;
-    let mut left: u32 = 64;
-    let mut to: usize = 0;
-    while 0 < left {
-        to = push_row(out, to, a);
-        a += 1;
-        left -= 1;
-    }
-    to
+    let mut out = Output::new(buffer);
+    push_rows(&mut out);
+    out.at
 }
 
-// The row of a, as far as `out` has room.
-fn push_row(out: &mut [u8], at: usize, a: u32) -> usize
-    requires { a ≤ 64 }
-    ensures { Wrote out.old at (row_text a 1 64) out.new result }
+// The rows of 1..64.
+fn push_rows(out: &mut Output<'_, u8>)
+    ensures { Wrote out.old (rows_text 1 64) out.new }
 {
-    let mut b: u32 = 1;
-    let mut left: usize = 64;
-    let mut to = at;
-    while 0 < left {
-        left -= 1;
-        to = numerals::push_value(out, to, multiple(a, b), left);
-        b += 1;
+    for a in 1..65 {
+        push_row(out, a);
     }
-    to
+}
+
+// The row of a.
+fn push_row(out: &mut Output<'_, u8>, a: u32)
+    requires { a ≤ 64 }
+    ensures { Wrote out.old (row_text a 1 64) out.new }
+{
+    for b in 1..65 {
+        numerals::push_value(out, multiple(a, b), (64 - b) as usize);
+    }
 }
 
 fn multiple(a: u32, b: u32) -> usize

@@ -8,7 +8,8 @@ use lib.ListN.{length, get_or, take, drop, set, length-set, length-drop, drop_of
 use lib.Seq.{take_all, append_snoc, drop-drop, get_or-drop}
 use Rattle.orm.specs.Text.{separator, decimal, values_text}
 use Rattle.reading.specs.Decimal.{bound, decimal-small, decimal-large}
-use Rattle.buffer.specs.Written.{Wrote, Writing, Splits}
+use Rattle.buffer.specs.declared.output.Output.{Output}
+use Rattle.buffer.specs.Written.{Wrote, Writing}
 use Rattle.buffer.specs.Laws.{wrote_then, wrote_as, writing_start}
 use Rattle.numerals.specs.Lines.{numbers_from, keyed, keyed_lines}
 
@@ -70,15 +71,15 @@ module _ (n : ℕ) (out : List ℕ) where
       (stored out k d here ∙ ap (λ (x : ℕ). x ∷ behind) digit ∙ ap (λ (l : List ℕ). l ++ behind) (sym (decimal-small left h))
       ∙ w.whole)
 
-module _ {o o₁ : List ℕ} {at a : ℕ} (n : ℕ) where
-  pub wrote-digit : {d : ℕ} → n < 10 → d ≡ 48 + n % 10 → Wrote o at (d ∷ []) o₁ a → Wrote o at (decimal n) o₁ a
+module _ {o o₁ : Output ℕ} (n : ℕ) where
+  pub wrote-digit : {d : ℕ} → n < 10 → d ≡ 48 + n % 10 → Wrote o (d ∷ []) o₁ → Wrote o (decimal n) o₁
   wrote-digit {d} small is w =
       let e : d ≡ 48 + n = omega arith in
       wrote_as w (ap (λ (x : ℕ). x ∷ []) e ∙ sym (decimal-small n small))
 
   -- `space` has twenty bytes, of which those from `from` on are written
   pub wrote-digits : (space : List ℕ) (from : ℕ) → length space ≡ 20 → drop from space ≡ decimal n
-      → Wrote o at (take (20 - from) (drop from space)) o₁ a → Wrote o at (decimal n) o₁ a
+      → Wrote o (take (20 - from) (drop from space)) o₁ → Wrote o (decimal n) o₁
   wrote-digits space from long e w =
       let all : length (drop from space) ≤ 20 - from = simp length-drop (omega arith) in
       wrote_as w (take_all (20 - from) (drop from space) all ∙ e)
@@ -94,18 +95,18 @@ unfolding separator
 separator-other zero n = absurd (n refl)
 separator-other (suc more) n = refl
 
-module _ {o o₁ o₂ : List ℕ} {at a b : ℕ} where
-  pub value-is : (x more : ℕ) {s : ℕ} → s ≡ separator more → Wrote o at (decimal x) o₁ a → Wrote o₁ a (s ∷ []) o₂ b
-      → Wrote o at (decimal x ++ separator more ∷ []) o₂ b
+module _ {o o₁ o₂ : Output ℕ} where
+  pub value-is : (x more : ℕ) {s : ℕ} → s ≡ separator more → Wrote o (decimal x) o₁ → Wrote o₁ (s ∷ []) o₂
+      → Wrote o (decimal x ++ separator more ∷ []) o₂
   value-is x more e w v = wrote_as (wrote_then w v) (ap (λ (s : ℕ). decimal x ++ s ∷ []) e)
 
   -- a key and what stands behind it
-  pub line-is : (k vs : List ℕ) → Wrote o at k o₁ a → Wrote o₁ a (values_text vs) o₂ b → Wrote o at (keyed k vs) o₂ b
+  pub line-is : (k vs : List ℕ) → Wrote o k o₁ → Wrote o₁ (values_text vs) o₂ → Wrote o (keyed k vs) o₂
   unfolding keyed
   line-is k vs w v = wrote_then w v
 
-  pub count-is : (k : List ℕ) (x : ℕ) → Wrote o at k o₁ a → Wrote o₁ a (decimal x ++ separator 0 ∷ []) o₂ b
-      → Wrote o at (keyed k (x ∷ [])) o₂ b
+  pub count-is : (k : List ℕ) (x : ℕ) → Wrote o k o₁ → Wrote o₁ (decimal x ++ separator 0 ∷ []) o₂
+      → Wrote o (keyed k (x ∷ [])) o₂
   unfolding keyed values_text
   count-is k x w v = wrote_then w v
 
@@ -131,9 +132,9 @@ unfolding numbers_from
 numbers-length s i zero = refl
 numbers-length s i (suc n) = ap suc (numbers-length s (suc i) n)
 
-pub values-start : (o : List ℕ) (at : ℕ) (s : List ℕ) (n : ℕ)
-    → Writing o at (values_text (numbers_from s 0 n)) o at (values_text (numbers_from s 0 (n - 0)))
-values-start o at s n = let e : n - 0 ≡ n = omega arith in rw e (writing_start o at (values_text (numbers_from s 0 n)))
+pub values-start : (o : Output ℕ) (s : List ℕ) (n : ℕ)
+    → Writing o (values_text (numbers_from s 0 n)) o (values_text (numbers_from s 0 (n - 0)))
+values-start o s n = let e : n - 0 ≡ n = omega arith in rw e (writing_start o (values_text (numbers_from s 0 n)))
 
 values-cons : (s : List ℕ) (i n : ℕ)
     → values_text (numbers_from s i (suc n)) ≡ decimal (get_or s i 0) ++ separator n ∷ values_text (numbers_from s (suc i) n)
@@ -142,18 +143,15 @@ values-cons s i n = ap (λ (m : ℕ). decimal (get_or s i 0) ++ separator m ∷ 
 
 module _ (s : List ℕ) (i n : ℕ) where
   pub values-more : {x : ℕ} → i < n → x ≡ get_or s i 0
-      → Splits (values_text (numbers_from s i (n - i))) (decimal x ++ separator (n - i - 1) ∷ []) (values_text (numbers_from s (i + 1) (n - (i + 1))))
+      → values_text (numbers_from s i (n - i)) ≡ (decimal x ++ separator (n - i - 1) ∷ []) ++ values_text (numbers_from s (i + 1) (n - (i + 1)))
   values-more {x} h e =
       let m : ℕ = n - (i + 1) in
       let here : n - i ≡ suc m = omega arith in
       let more : n - i - 1 ≡ m = omega arith in
       let behind : List ℕ = values_text (numbers_from s (suc i) (n - suc i)) in
-      record {
-        is =
-            ap (λ (k : ℕ). values_text (numbers_from s i k)) here
-            ∙ values-cons s i m
-            ∙ rw (e, more, add-one) (sym (append_snoc (decimal (get_or s i 0)) (separator (n - suc i)) behind));
-      }
+      ap (λ (k : ℕ). values_text (numbers_from s i k)) here
+      ∙ values-cons s i m
+      ∙ rw (e, more, add-one) (sym (append_snoc (decimal (get_or s i 0)) (separator (n - suc i)) behind))
 
   pub values-none : n ≤ i → values_text (numbers_from s i (n - i)) ≡ []
   unfolding numbers_from values_text
@@ -161,14 +159,13 @@ module _ (s : List ℕ) (i n : ℕ) where
 
 -- ---- lines of one kind, one after another
 
--- `p` is where the next line starts
-pub lines_more : (k : List ℕ) (n : ℕ) (t : List ℕ) (q left p : ℕ) → 0 < left → drop p t ≡ drop (q + n) t
-    → Splits (keyed_lines k n left (drop q t)) (keyed k (numbers_from (drop q t) 0 n)) (keyed_lines k n (left - 1) (drop p t))
+-- `p` is where the next line starts, behind `i` of `count` lines
+pub lines_more : (k : List ℕ) (n : ℕ) (t : List ℕ) (q count i p : ℕ) → i < count → drop p t ≡ drop (q + n) t
+    → keyed_lines k n (count - i) (drop q t) ≡ keyed k (numbers_from (drop q t) 0 n) ++ keyed_lines k n (count - (i + 1)) (drop p t)
 unfolding keyed_lines
-lines_more k n t q zero p h e = absurd (omega arith)
-lines_more k n t q (suc left) p h e =
-    let one : suc left - 1 ≡ left = omega arith in
-    record { is = rw (one, drop-drop n q t, e) }
+lines_more k n t q count i p h e =
+    let left : count - i ≡ suc (count - (i + 1)) = omega arith in
+    rw left (rw (drop-drop n q t, e) refl)
 
 pub lines_none : (k : List ℕ) (n left : ℕ) (s : List ℕ) → left ≤ 0 → keyed_lines k n left s ≡ []
 unfolding keyed_lines

@@ -1,14 +1,13 @@
 -- What the roles that a type plays tell of it: of one role, of some, and of those of all predicates.
-use Rattle.std.specs.Prelude.{ℕ, ◌≡◌, not, ◌&&◌, eqb, length}
+use Rattle.std.specs.Prelude.{ℕ, ◌≡◌, Option, Some, None, true, false, not, ◌&&◌, eqb}
 use mathlib.Core.List.{List, [], ◌++◌, map, flatten}
 use Rattle.counting.specs.Distinct.{all}
 use Rattle.orm.specs.Diagram.{Role, is_mandatory}
 use Rattle.orm.specs.Form.{◌to◌, in_range}
 use Rattle.orm.specs.Constraints.{Played, values_in_roles, all_played}
-use Rattle.faults.specs.Faults.{Fault, unless, given, lowered, faults_of}
+use Rattle.faults.specs.Faults.{Fault, unless, lowered, faults_of}
 use Rattle.faults.specs.Passes.{role_faults, roles_faults}
 use Rattle.table.specs.Positions.{diagram_of}
-use Rattle.lookup.specs.declared.Met.{Met}
 use Rattle.lookup.specs.Stamps.{all_met, is_set}
 use Rattle.lookup.specs.Counts.{Fresh}
 use Rattle.playing.specs.Places.{population_of}
@@ -17,11 +16,11 @@ use Rattle.playing.specs.Places.{population_of}
 abbrev pub played_as : Role → List ℕ → Played
 played_as r vs = record { role = r; values = vs }
 
--- K7, K8 and K11 of a role of the predicate with the number n, by what was met of a type with `size` members
-unfoldable pub told_by : Role → Met → ℕ → ℕ → List Fault
-told_by r met size n =
-    unless met.all 7 n
-    ++ given met.all (unless (not (is_mandatory r && not (eqb met.count size))) 8 n ++ unless (in_range (r.rmin to r.rmax) met.count) 11 n)
+-- K7, K8 and K11 of a role of the predicate with the number n, by how many of the `size` members of its type were met, if all values are members
+unfoldable pub told_by : Role → Option ℕ → ℕ → ℕ → List Fault
+told_by r None size n = unless false 7 n
+told_by r (Some count) size n =
+    unless true 7 n ++ (unless (not (is_mandatory r && not (eqb count size))) 8 n ++ unless (in_range (r.rmin to r.rmax) count) 11 n)
 
 -- The faults fs noted in the entries e, and the values vs met by the marks ms of the members `ws`, come to what all the faults fs₀ and all the
 -- values vs₀ make of e₀ and ms₀; no stamp from k on was used
@@ -29,7 +28,6 @@ pub record Left (ws : List ℕ) (fs₀ : List Fault) (vs₀ ms₀ e₀ : List �
   pub faults : lowered fs e ≡ lowered fs₀ e₀
   pub met : (us : List ℕ) → all_met ws ms (vs ++ us) ≡ all_met ws ms₀ (vs₀ ++ us)
   pub fresh : Fresh ws ms k
-  pub long : length e ≡ 12
 
 -- The roles xs of the predicate with the number n, of which those count that the type with this number plays: of them nothing is left
 pub record Heard (number : ℕ) (ws : List ℕ) (n : ℕ) (xs : List Played) (ms e ms' e' : List ℕ) (k : ℕ) : Type 0 where

@@ -1,6 +1,6 @@
 -- Demand 3 on running code, one statement over all three: whatever `read`, `check` and `populate` answer, and whatever they leave in their buffers,
 -- means what the guarantee says. `HasRead`, `HasChecked` and `HasPopulated` are what the contracts of the three functions ensure.
-use Rattle.std.specs.Prelude.{ℕ, ◌<◌, ◌≡◌, List, ◌++◌, length, drop}
+use Rattle.std.specs.Prelude.{ℕ, ◌<◌, ◌≡◌, List, ◌++◌, length, drop, Result, Ok, Err}
 use Rattle.fixpoint.specs.Notions.{◌≼◌}
 use Rattle.orm.specs.Diagram.{Diagram, table}
 use Rattle.orm.specs.Text.{render}
@@ -12,23 +12,22 @@ use Rattle.orm.specs.Meaning.{ValidPopulation}
 use Rattle.orm.specs.WellFormed.{WellFormed}
 use Rattle.guarantee.specs.Guarantee.{NoPopulation, EmptiedAt, Populated}
 use Rattle.reader.specs.Answer.{conversion_of}
-use Rattle.reader.specs.declared.Conversion.{Conversion}
-use Rattle.reader.specs.declared.Conversion.TheVariants as reads
 use Rattle.bounds.specs.Answer.{Answered}
-use Rattle.bounds.specs.declared.Settlement.{Settlement}
-use Rattle.bounds.specs.declared.Settlement.TheVariants.{Refused, Unsatisfiable, TooShort, Accepted}
+use Rattle.bounds.specs.declared.Written as bounds
+use Rattle.refusals.specs.declared.Refusal.{Refusal}
+use Rattle.refusals.specs.declared.Refusal.TheVariants as refusals
 use Rattle.populate.specs.Answer.{cells_of}
 
 -- ---- the contracts: the answer `r`, and the buffer before and after
 
-pub record HasRead (text before : List ℕ) (r : Conversion) (after : List ℕ) : Type 0 where
+pub record HasRead (text before : List ℕ) (r : Result ℕ Refusal) (after : List ℕ) : Type 0 where
   pub handed : conversion_of r ≡ length_of (read_call text (length before))
   pub buffer : after ≡ buffer_after (read_call text (length before)) before
 
-abbrev pub HasChecked : List ℕ → List ℕ → Settlement → List ℕ → Type 0
+abbrev pub HasChecked : List ℕ → List ℕ → Result bounds.Written Refusal → List ℕ → Type 0
 HasChecked t before r after = Answered (check_call t (length before)) r before after
 
-abbrev pub HasPopulated : List ℕ → List ℕ → Settlement → List ℕ → Type 0
+abbrev pub HasPopulated : List ℕ → List ℕ → Result bounds.Written Refusal → List ℕ → Type 0
 HasPopulated t before r after = Answered (populate_call t (length before)) r before after
 
 -- ---- what the answers of check and populate mean
@@ -69,12 +68,16 @@ pub record Written (t : List ℕ) (make : Making) (n rounds : ℕ) (before after
   pub length_written : n ≡ length (make of.diagram populated.settled)
   pub front : after ≡ make of.diagram populated.settled ++ drop n before
 
--- A table that is refused with 1 to 6 is that of no well-formed diagram, and the buffer stays; any other answer means that it is the table of one
-abbrev pub Means : List ℕ → Making → Settlement → List ℕ → List ℕ → Type 0
-Means t make (Refused f line) before after = (TableOf t → ⊥) × (after ≡ before)
-Means t make (Unsatisfiable set round) before after = Emptied t set round before after
-Means t make (TooShort needed) before after = Lacks t make needed before after
-Means t make (Accepted n rounds) before after = Written t make n rounds before after
+-- A table that is refused with 1 to 6 is that of no well-formed diagram, and the buffer stays; with 7 or 8, or accepted, it is the table of one; no
+-- other refusal is given
+abbrev pub Means : List ℕ → Making → Result bounds.Written Refusal → List ℕ → List ℕ → Type 0
+Means t make (Err (refusals.Faulty f line)) before after = (TableOf t → ⊥) × (after ≡ before)
+Means t make (Err (refusals.Emptied set round)) before after = Emptied t set round before after
+Means t make (Err (refusals.TooShort needed)) before after = Lacks t make needed before after
+Means t make (Err (refusals.Cells at)) before after = ⊥
+Means t make (Err (refusals.NoSuch number)) before after = ⊥
+Means t make (Err (refusals.Impossible set round)) before after = ⊥
+Means t make (Ok w) before after = Written t make w.length w.rounds before after
 
 -- 'check writes the settled sizes', 'and fill writes the cells of document 01's filling'
 abbrev pub settled_sizes : Making
@@ -85,8 +88,8 @@ pub record TableMeans (t : List ℕ) : Type 0 where
   -- ceiling then standing'
   pub bounded : (x : TableOf t) (rounds : ℕ) (s : List ℕ) (o : ValidPopulation x.diagram s)
       → sizes x.diagram o.population ≼ upper_after_rounds x.diagram rounds
-  pub check : (before after : List ℕ) (r : Settlement) → HasChecked t before r after → Means t settled_sizes r before after
-  pub populate : (before after : List ℕ) (r : Settlement) → HasPopulated t before r after → Means t cells_of r before after
+  pub check : (before after : List ℕ) (r : Result bounds.Written Refusal) → HasChecked t before r after → Means t settled_sizes r before after
+  pub populate : (before after : List ℕ) (r : Result bounds.Written Refusal) → HasPopulated t before r after → Means t cells_of r before after
 
 -- ---- what the answers of reading mean
 
@@ -108,16 +111,21 @@ pub record TableLacks (text : List ℕ) (needed : ℕ) (before after : List ℕ)
   pub short : length before < needed
   pub kept : after ≡ before
 
--- A text that is refused with 1 to 6 is that of no well-formed diagram; the buffer stays
-abbrev pub ReadMeans : List ℕ → Conversion → List ℕ → List ℕ → Type 0
-ReadMeans text (reads.Refused f line) before after = (TextOf text → ⊥) × (after ≡ before)
-ReadMeans text (reads.TooShort needed) before after = TableLacks text needed before after
-ReadMeans text (reads.Accepted n) before after = TableRead text n before after
+-- A text that is refused with 1 to 6 is that of no well-formed diagram, and the buffer stays; with 8, or accepted, it is the text of one; no other
+-- refusal is given
+abbrev pub ReadMeans : List ℕ → Result ℕ Refusal → List ℕ → List ℕ → Type 0
+ReadMeans text (Err (refusals.Faulty f line)) before after = (TextOf text → ⊥) × (after ≡ before)
+ReadMeans text (Err (refusals.TooShort needed)) before after = TableLacks text needed before after
+ReadMeans text (Err (refusals.Emptied set round)) before after = ⊥
+ReadMeans text (Err (refusals.Cells at)) before after = ⊥
+ReadMeans text (Err (refusals.NoSuch number)) before after = ⊥
+ReadMeans text (Err (refusals.Impossible set round)) before after = ⊥
+ReadMeans text (Ok n) before after = TableRead text n before after
 
 -- ---- the statement
 
 pub record Demand3 : Type 0 where
   -- every text, buffer and answer of reading
-  pub of_text : (text before after : List ℕ) (r : Conversion) → HasRead text before r after → ReadMeans text r before after
+  pub of_text : (text before after : List ℕ) (r : Result ℕ Refusal) → HasRead text before r after → ReadMeans text r before after
   -- every table, buffer and answer of check and populate; the table that was read is one
   pub of_table : (t : List ℕ) → TableMeans t

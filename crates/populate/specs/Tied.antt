@@ -3,7 +3,7 @@ use Prim.Native.Nat.{ℕ, ◌≤◌, ◌<◌}
 use Rattle.std.proofs.Math.Decide.{dec_le}
 use Rattle.std.proofs.Common.{arith, sym, ◌∙◌, ⊎_elim}
 use Rattle.std.proofs.Math.Path.{◌≡◌, ap}
-use Rattle.std.specs.Prelude.{refl}
+use Rattle.std.specs.Prelude.{refl, Result, Ok, Err}
 use mathlib.Core.List.{List, ◌++◌}
 use Rattle.std.proofs.Math.ListN.{length, drop}
 use Rattle.orm.specs.Diagram.{Diagram, table}
@@ -14,14 +14,13 @@ use Rattle.guarantee.specs.Settling.{Writes}
 use Rattle.guarantee.proofs.Ends.{refused_or_some}
 use Rattle.guarantee.specs.Guarantee.{NoPopulation, EmptiedAt, RefusesEmptied, Populated, TableGuarantee, FaultOfForm}
 use Rattle.guarantee.proofs.Guarantee.{guarantee}
-use Rattle.grammar.specs.Fault.{number_of}
 use Rattle.reader.specs.Answer.{conversion_of}
-use Rattle.reader.specs.declared.Conversion.{Conversion}
-use Rattle.reader.specs.declared.Conversion.TheVariants as reads
+use Rattle.refusals.specs.Refusal.{refusal_of}
+use Rattle.refusals.specs.Laws.{told-emptied, told-short}
+use Rattle.refusals.specs.declared.Refusal.{Refusal}
+use Rattle.refusals.specs.declared.Refusal.TheVariants.{Faulty, Emptied, TooShort, Cells, NoSuch, Impossible}
 use Rattle.bounds.specs.Answer.{settlement_of}
-use Rattle.grammar.specs.Laws.Faults.{few-faults}
-use Rattle.bounds.specs.declared.Settlement.{Settlement}
-use Rattle.bounds.specs.declared.Settlement.TheVariants.{Refused, Unsatisfiable, TooShort, Accepted}
+use Rattle.bounds.specs.declared.Written.{Written}
 use Rattle.populate.specs.Answer.{cells_of}
 use Rattle.populate.specs.Demand3.{TableOf, Making, settled_sizes, Means, TableMeans, TextOf, ReadMeans, Demand3}
 
@@ -70,33 +69,33 @@ module _ (before after : List ℕ) where
   unfolding written buffer_after
   kept o q w = w ∙ ap (λ (x : Outcome Sized). buffer_after (written x) before) q
 
-  by-ending : {t : List ℕ} {make : Making} (r : Settlement) (o : Outcome Sized) → settlement_of r ≡ handed_back o
+  -- of refusals with 1 to 6
+  of_form : {t : List ℕ} (make : Making) (x : Refusal) {c line : ℕ} → c ≤ 6 → refusal_of {A = Handed} x ≡ refused c line 0
+      → (TableOf t → ⊥) → after ≡ before → Means t make (Err x) before after
+  of_form make (Faulty f line) few e none k = (none, k)
+  of_form make (Emptied set round) {c} few e none k = let z : 7 ≡ c = cc in absurd (omega arith)
+  of_form make (TooShort needed) {c} few e none k = let z : 8 ≡ c = cc in absurd (omega arith)
+  of_form make (Cells at) {c} few e none k = let z : 9 ≡ c = cc in absurd (omega arith)
+  of_form make (NoSuch number) {c} few e none k = let z : 10 ≡ c = cc in absurd (omega arith)
+  of_form make (Impossible set round) {c} few e none k = let z : 11 ≡ c = cc in absurd (omega arith)
+
+  by-ending : {t : List ℕ} {make : Making} (r : Result Written Refusal) (o : Outcome Sized) → settlement_of r ≡ handed_back o
       → after ≡ buffer_after (written o) before → Ending t make o before → Means t make r before after
   unfolding written buffer_after
-  by-ending (Refused f line) o e w (faulty c l q few none) = (none, kept o q w)
-  by-ending (Refused f line) o e w (emptied x set round q n a) = let z : number_of f ≡ 7 = cc in absurd (omega (arith, few-faults f))
-  by-ending (Refused f line) o e w (lacks x p q s) = let z : number_of f ≡ 8 = cc in absurd (omega (arith, few-faults f))
-  by-ending (Refused f line) o e w (writes x p q) = let z : ◌≡◌ {A = ℕ} 0 1 = cc in absurd (omega arith)
-  by-ending (Unsatisfiable set round) o e w (faulty c l q few none) = let z : c ≡ 7 = cc in absurd (omega arith)
-  by-ending (Unsatisfiable set round) o e w (emptied x set' round' q n a) =
-      let es : set ≡ set' = cc in
-      let er : round ≡ round' = cc in
-      record { of = x; none = n; at = rw (es, er) a; kept = kept o q w }
-  by-ending (Unsatisfiable set round) o e w (lacks x p q s) = let z : ◌≡◌ {A = ℕ} 7 8 = cc in absurd (omega arith)
-  by-ending (Unsatisfiable set round) o e w (writes x p q) = let z : ◌≡◌ {A = ℕ} 0 1 = cc in absurd (omega arith)
-  by-ending (TooShort needed) o e w (faulty c l q few none) = let z : c ≡ 8 = cc in absurd (omega arith)
-  by-ending (TooShort needed) o e w (emptied x set round q n a) = let z : ◌≡◌ {A = ℕ} 8 7 = cc in absurd (omega arith)
-  by-ending {make = make} (TooShort needed) o e w (lacks x p q s) =
-      let en : needed ≡ length (make x.diagram p.settled) = cc in
-      record { of = x; populated = p; length_needed = en; short = rw en s; kept = kept o q w }
-  by-ending (TooShort needed) o e w (writes x p q) = let z : ◌≡◌ {A = ℕ} 0 1 = cc in absurd (omega arith)
-  by-ending (Accepted n rounds) o e w (faulty c l q few none) = let z : ◌≡◌ {A = ℕ} 0 1 = cc in absurd (omega arith)
-  by-ending (Accepted n rounds) o e w (emptied x set round q n' a) = let z : ◌≡◌ {A = ℕ} 0 1 = cc in absurd (omega arith)
-  by-ending (Accepted n rounds) o e w (lacks x p q s) = let z : ◌≡◌ {A = ℕ} 0 1 = cc in absurd (omega arith)
-  by-ending {make = make} (Accepted n rounds) o e w (writes x p q) =
+  by-ending {t} {make} (Err f) o e w (faulty c l q few none) = of_form make f few (e ∙ ap handed_back q) none (kept o q w)
+  by-ending {t} {make} (Err f) o e w (emptied x set round q n a) =
+      rw (told-emptied f (e ∙ ap handed_back q)) (record { of = x; none = n; at = a; kept = kept o q w })
+  by-ending {t} {make} (Err f) o e w (lacks x p q s) =
+      rw (told-short f (e ∙ ap handed_back q))
+      (record { of = x; populated = p; length_needed = refl; short = s; kept = kept o q w })
+  by-ending (Err f) o e w (writes x p q) = let z : ◌≡◌ {A = ℕ} 0 1 = cc in absurd (omega arith)
+  by-ending (Ok v) o e w (faulty c l q few none) = let z : ◌≡◌ {A = ℕ} 0 1 = cc in absurd (omega arith)
+  by-ending (Ok v) o e w (emptied x set round q n' a) = let z : ◌≡◌ {A = ℕ} 0 1 = cc in absurd (omega arith)
+  by-ending (Ok v) o e w (lacks x p q s) = let z : ◌≡◌ {A = ℕ} 0 1 = cc in absurd (omega arith)
+  by-ending {make = make} (Ok v) o e w (writes x p q) =
       let result : List ℕ = make x.diagram p.settled in
-      let h : ◌≡◌ {A = Handed} (record { rounds = rounds; result_length = n }) (record { rounds = p.rounds; result_length = length result }) = cc in
-      let en : n ≡ length result = ap (λ (y : Handed). y.result_length) h in
+      let h : ◌≡◌ {A = Handed} (record { rounds = v.rounds; result_length = v.length }) (record { rounds = p.rounds; result_length = length result }) = cc in
+      let en : v.length ≡ length result = ap (λ (y : Handed). y.result_length) h in
       record {
         of = x;
         populated = p;
@@ -180,20 +179,29 @@ module _ (text before : List ℕ) where
       go (refused c place round) e = of-fault λ d q. let z : ◌≡◌ {A = ℕ} 0 1 = cc in omega arith
 
 module _ (text before after : List ℕ) where
-  by-read-ending : (r : Conversion) (o : Outcome (List ℕ)) → conversion_of r ≡ length_of o → after ≡ buffer_after o before → ReadEnding text o before
-      → ReadMeans text r before after
+  read-kept : (o : Outcome (List ℕ)) {n place round : ℕ} → o ≡ refused n place round → after ≡ buffer_after o before → after ≡ before
   unfolding buffer_after
-  by-read-ending (reads.Refused f line) o e w (faulty c l q few none) = (none, w ∙ ap (λ (x : Outcome (List ℕ)). buffer_after x before) q)
-  by-read-ending (reads.Refused f line) o e w (lacking x q s) = let z : number_of f ≡ 8 = cc in absurd (omega (arith, few-faults f))
-  by-read-ending (reads.Refused f line) o e w (reading x q) = let z : ◌≡◌ {A = ℕ} 0 1 = cc in absurd (omega arith)
-  by-read-ending (reads.TooShort needed) o e w (faulty c l q few none) = let z : c ≡ 8 = cc in absurd (omega arith)
-  by-read-ending (reads.TooShort needed) o e w (lacking x q s) =
-      let en : needed ≡ length (table x.diagram) = cc in
-      record { of = x; length_needed = en; short = rw en s; kept = w ∙ ap (λ (y : Outcome (List ℕ)). buffer_after y before) q }
-  by-read-ending (reads.TooShort needed) o e w (reading x q) = let z : ◌≡◌ {A = ℕ} 0 1 = cc in absurd (omega arith)
-  by-read-ending (reads.Accepted n) o e w (faulty c l q few none) = let z : ◌≡◌ {A = ℕ} 0 1 = cc in absurd (omega arith)
-  by-read-ending (reads.Accepted n) o e w (lacking x q s) = let z : ◌≡◌ {A = ℕ} 0 1 = cc in absurd (omega arith)
-  by-read-ending (reads.Accepted n) o e w (reading x q) =
+  read-kept o q w = w ∙ ap (λ (x : Outcome (List ℕ)). buffer_after x before) q
+
+  text_of_form : (x : Refusal) {c line : ℕ} → c ≤ 6 → refusal_of {A = ℕ} x ≡ refused c line 0 → (TextOf text → ⊥) → after ≡ before
+      → ReadMeans text (Err x) before after
+  text_of_form (Faulty f line) few e none k = (none, k)
+  text_of_form (Emptied set round) {c} few e none k = let z : 7 ≡ c = cc in absurd (omega arith)
+  text_of_form (TooShort needed) {c} few e none k = let z : 8 ≡ c = cc in absurd (omega arith)
+  text_of_form (Cells at) {c} few e none k = let z : 9 ≡ c = cc in absurd (omega arith)
+  text_of_form (NoSuch number) {c} few e none k = let z : 10 ≡ c = cc in absurd (omega arith)
+  text_of_form (Impossible set round) {c} few e none k = let z : 11 ≡ c = cc in absurd (omega arith)
+
+  by-read-ending : (r : Result ℕ Refusal) (o : Outcome (List ℕ)) → conversion_of r ≡ length_of o → after ≡ buffer_after o before
+      → ReadEnding text o before → ReadMeans text r before after
+  unfolding buffer_after
+  by-read-ending (Err f) o e w (faulty c l q few none) = text_of_form f few (e ∙ ap length_of q) none (read-kept o q w)
+  by-read-ending (Err f) o e w (lacking x q s) =
+      rw (told-short f (e ∙ ap length_of q)) (record { of = x; length_needed = refl; short = s; kept = read-kept o q w })
+  by-read-ending (Err f) o e w (reading x q) = let z : ◌≡◌ {A = ℕ} 0 1 = cc in absurd (omega arith)
+  by-read-ending (Ok n) o e w (faulty c l q few none) = let z : ◌≡◌ {A = ℕ} 0 1 = cc in absurd (omega arith)
+  by-read-ending (Ok n) o e w (lacking x q s) = let z : ◌≡◌ {A = ℕ} 0 1 = cc in absurd (omega arith)
+  by-read-ending (Ok n) o e w (reading x q) =
       let en : n ≡ length (table x.diagram) = cc in
       record {
         of = x;

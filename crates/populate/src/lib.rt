@@ -6,7 +6,6 @@ ghost use Rattle.std.specs.Prelude.{◌≡◌, length};
 ghost use Rattle.orm.specs.Sets.{set_count};
 ghost use Rattle.orm.specs.Outcome.{buffer_after, written, handed_back};
 ghost use Rattle.orm.specs.Calls.{populate_call};
-ghost use Rattle.reading.specs.WideTable.{most_numbers};
 ghost use Rattle.limits.specs.Prepared.{most_sets, ValidTotals};
 ghost use Rattle.table.specs.Positions.{diagram_of};
 ghost use Rattle.table.specs.Valid.{Valid};
@@ -15,12 +14,18 @@ ghost use Rattle.bounds.specs.Start.{Starts};
 ghost use Rattle.bounds.specs.Answer.{settlement_of, Answered};
 ghost use Rattle.populate.specs.Answer.{filled, populated};
 
-use bounds::{Settlement, Start};
-use widening::Acceptance;
+use bounds::{Start, Written};
+use refusals::Refusal;
+use widening::MOST_NUMBERS;
 
 // Writes the cells of the population that a valid table's diagram has with these sizes, to which so many
 // rounds led.
-pub fn populate_settled(t: &[u32], sizes: &[u32], rounds: u32, cells: &mut [u32]) -> Settlement
+pub fn populate_settled(
+    t: &[u32],
+    sizes: &[u32],
+    rounds: u32,
+    cells: &mut [u32],
+) -> Result<Written, Refusal>
     requires valid { Valid t.now }
     requires small { Small sizes.now }
     ensures { Answered (filled t.now rounds sizes.now (length cells.old)) result cells.old
@@ -28,13 +33,13 @@ pub fn populate_settled(t: &[u32], sizes: &[u32], rounds: u32, cells: &mut [u32]
 {
     let needed = population::cell_count(t, sizes);
     if cells.len() < needed {
-        return Settlement::TooShort { needed };
+        return Err(Refusal::TooShort { needed });
     }
     population::write_cells(t, sizes, cells);
-    Settlement::Accepted {
+    Ok(Written {
         length: needed,
         rounds,
-    }
+    })
 }
 
 // The check's refusals are handed on; `sizes` is scratch.
@@ -45,17 +50,14 @@ fn populate_in(
     start: Start,
     sizes: &mut [u32],
     cells: &mut [u32],
-) -> Settlement
+) -> Result<Written, Refusal>
     requires valid_totals { ValidTotals t.now roles groups }
     requires starts { Starts start (set_count (diagram_of t.now)) }
     requires sizes_len { length sizes.old ≡ most_sets }
     ensures { Answered (populated start t.now (length cells.old)) result cells.old cells.new }
 {
-    let checked = bounds::check_valid(t, roles, groups, start, sizes);
-    let Settlement::Accepted { length, rounds } = checked else {
-        return checked;
-    };
-    populate_settled(t, &sizes[..length], rounds, cells)
+    let settled = bounds::check_valid(t, roles, groups, start, sizes)?;
+    populate_settled(t, &sizes[..settled.length], settled.rounds, cells)
 }
 
 // Writes the cells of a valid table's population, with the sizes that the rounds from these bounds settle
@@ -66,7 +68,7 @@ pub fn populate_valid(
     groups: usize,
     start: Start,
     cells: &mut [u32],
-) -> Settlement
+) -> Result<Written, Refusal>
     requires valid_totals { ValidTotals t.now roles groups }
     requires starts { Starts start (set_count (diagram_of t.now)) }
     ensures { Answered (populated start t.now (length cells.old)) result cells.old cells.new }
@@ -75,30 +77,20 @@ pub fn populate_valid(
     populate_in(t, roles, groups, start, &mut sizes, cells)
 }
 
-// Populates any table; `wide` is scratch.
-fn populate_table(table: &[u32], wide: &mut [u32], cells: &mut [u32]) -> Settlement
-    requires { length wide.old ≡ most_numbers }
-    ensures { Answered (populate_call table.now (length cells.old)) result cells.old cells.new }
-{
-    let acceptance = widening::accept(table, wide);
-    match acceptance {
-        Acceptance::Refused { fault, line } => Settlement::Refused { fault, line },
-        Acceptance::Widened {
-            length,
-            types: _,
-            preds: _,
-            roles,
-            groups,
-        } => populate_valid(&wide[..length], roles, groups, Start::Own, cells),
-    }
-}
-
-// Writes the cells of a table's population.
-pub fn populate(table: &[u32], cells: &mut [u32]) -> Settlement
+// Writes the cells of a table's population. It refuses the table (1 to 6), a diagram of which a set is
+// emptied (7), and a buffer that is too short for the cells (8).
+pub fn populate(table: &[u32], cells: &mut [u32]) -> Result<Written, Refusal>
     ensures result_value { settlement_of result ≡ handed_back (populate_call table.now (length cells.old)) }
     ensures cells_after { cells.new
         ≡ buffer_after (written (populate_call table.now (length cells.old))) cells.old }
 {
-    let mut wide = widening::scratch();
-    populate_table(table, &mut wide, cells)
+    let mut wide = [0; MOST_NUMBERS];
+    let widened = widening::accept(table, &mut wide)?;
+    populate_valid(
+        &wide[..widened.length],
+        widened.roles,
+        widened.groups,
+        Start::Own,
+        cells,
+    )
 }

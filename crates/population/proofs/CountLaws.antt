@@ -1,9 +1,9 @@
--- How many cells there are: those counted and those of the types, or predicates, left come to the whole.
-use Prim.Native.Nat.{ℕ, ◌+◌, ◌*◌, ◌-◌, ◌≤◌, ◌<◌}
+-- How many cells there are.
+use Prim.Native.Nat.{ℕ, ◌+◌, ◌*◌, ◌≤◌}
 use native.Mathlib.Nat.{mul-le-mul, suc-mul, zero-mul}
 use native.Mathlib.Omega.{arith}
 use mathlib.Core.Path.{◌≡◌, refl, sym, ap, ◌∙◌}
-use mathlib.Core.List.{List, [], ◌∷◌, map, flatten}
+use mathlib.Core.List.{List, [], ◌∷◌, ◌++◌, map, flatten}
 use lib.ListN.{length, get_or, drop, length-append}
 use mir.Syntax.{w64}
 use mir.Val.{Fits}
@@ -11,45 +11,34 @@ use Rattle.counting.specs.Lists.{up_from}
 use Rattle.counting.proofs.Laws.Range.{length-up_from}
 use Rattle.counting.proofs.Laws.Index.{length-map_from}
 use Rattle.orm.specs.Diagram.{Diagram}
-use Rattle.orm.specs.Form.{type_of}
 use Rattle.orm.specs.Sets.{Placed, placed}
 use Rattle.orm.specs.Population.{cells_of_type, cells_of_pred, cells}
 use Rattle.orm.specs.Supertypes.{first_value}
 use Rattle.orm.specs.Populate.{size, type_values, row, rows, population}
-use Rattle.table.specs.Positions.{pred_count, type_count, diagram_of}
-use Rattle.table.specs.Laws.Walks.{each-length}
-use Rattle.table.specs.Cursors.{placed_at, placed_left, first_cursor, next_cursor, Here}
-use Rattle.table.specs.Laws.Cursors.{placed-start}
+use Rattle.table.specs.Positions.{diagram_of}
+use Rattle.table.specs.Cursors.{placed_at, Here}
 use Rattle.table.specs.declared.Cursor.{Cursor}
-use Rattle.buffer.specs.Written.{Splits}
-use Rattle.population.proofs.TypeLaws.{type_cells, types_more}
+use Rattle.population.specs.Plan.{cells_at}
+use Rattle.population.proofs.TypeLaws.{type_cells}
 use Rattle.population.proofs.PartLaws.{role-count}
-use Rattle.population.proofs.PredLaws.{pred_cells, preds-next}
+use Rattle.population.proofs.PredLaws.{pred_cells, cells_is}
 
--- `m` are counted, and `rest` is left of `whole`
-pub record Counted (m : ℕ) (rest whole : List ℕ) : Type 0 where
-  pub is : m + length rest ≡ length whole
+-- ---- one cell more for the count
 
-counted-more : {m k : ℕ} {rest xs ys whole : List ℕ} → Counted m rest whole → Splits rest xs ys → length xs ≡ k → Counted (m + k) ys whole
-counted-more {rest = rest} {xs = xs} {ys = ys} c s e = record { is = omega (arith, c.is, ap length s.is, length-append xs ys, e) }
+pub counted_none : {xs : List ℕ} → xs ≡ [] → 0 ≡ length xs
+counted_none e = sym (ap length e)
 
-pub counted-all : {m : ℕ} {rest whole : List ℕ} → Counted m rest whole → rest ≡ [] → m ≡ length whole
-counted-all c e = omega (arith, c.is, ap length e)
+pub counted_more : (xs ys : List ℕ) {n m : ℕ} {zs : List ℕ} → n ≡ length xs → zs ≡ xs ++ ys → m ≡ length ys → n + m ≡ length zs
+counted_more xs ys e f g = omega (arith, e, g, ap length f, length-append xs ys)
 
 -- ---- types
 
-type-length : (d : Diagram) (c : List ℕ) (a : ℕ) → length (cells_of_type (type_values d c a)) ≡ 1 + get_or c a 0
+pub type-length : (d : Diagram) (c : List ℕ) (a : ℕ) → length (cells_of_type (type_values d c a)) ≡ 1 + get_or c a 0
 unfolding cells_of_type type_values
 type-length d c a = omega (arith, length-up_from (first_value d.types a) (get_or c a 0))
 
-pub types-counted : (t c : List ℕ) {n : ℕ} → n ≡ type_count t
-    → Counted 0 (type_cells (diagram_of t) c 0 n) (type_cells (diagram_of t) c 0 (length (diagram_of t).types))
-types-counted t c e = let long : length (diagram_of t).types ≡ type_count t = unfold diagram_of in each-length type_of 6 (type_count t)
-    (drop 2 t) in rw (e, ← long) (record { is = omega arith })
-
-pub type-counted : (d : Diagram) (c : List ℕ) (a n : ℕ) {m k i : ℕ} {whole : List ℕ} → Counted m (type_cells d c a n) whole → 0 < n
-    → k ≡ get_or c a 0 → i ≡ k → Counted (m + (1 + i)) (type_cells d c (a + 1) (n - 1)) whole
-type-counted d c a n w h ek ei = counted-more w (types_more d c a n h) (type-length d c a ∙ ap (λ (j : ℕ). 1 + j) (sym ek ∙ sym ei))
+pub type_length_at : (d : Diagram) (c : List ℕ) (a : ℕ) {k : ℕ} → k ≡ get_or c a 0 → 1 + k ≡ length (cells_of_type (type_values d c a))
+type_length_at d c a e = omega (arith, e, type-length d c a)
 
 -- ---- predicates
 
@@ -74,33 +63,23 @@ pred-length d c y =
     (up_from 0 (size c y.own)) ∙ ap (λ (n : ℕ). n * length y.predicate.roles) (length-up_from 0 (size c y.own)) in
     omega (arith, e)
 
-module _ (t c : List ℕ) where
-  pub preds-counted : {x : Cursor} {n : ℕ} → x ≡ first_cursor t → n ≡ pred_count t
-      → Counted 0 (pred_cells t c (placed_left n t x)) (pred_cells t c (placed (diagram_of t)))
-  preds-counted ex en = rw (placed-start t ex en) (record { is = omega arith })
+pub pred_length_at : (t c : List ℕ) (x : Cursor) {k : ℕ} → k ≡ get_or c x.own 0 * get_or (drop x.at t) 2 0 → 1 + k ≡ length (cells_at t c x)
+pred_length_at t c x e =
+    let own : get_or c (placed_at t x).own 0 ≡ get_or c x.own 0 = unfold placed_at in refl in
+    sym (pred-length (diagram_of t) c (placed_at t x) ∙ rw (e, own, role-count t x))
 
-  pub pred-counted : (x : Cursor) (n : ℕ) {y : Cursor} {m k : ℕ} {whole : List ℕ} → Counted m (pred_cells t c (placed_left n t x)) whole → 0 < n
-      → y ≡ next_cursor t x
-      → k ≡ get_or c x.own 0 * get_or (drop x.at t) 2 0 → Counted (m + (1 + k)) (pred_cells t c (placed_left (n - 1) t y)) whole
-  pred-counted x n w h ey ek =
-      let own : get_or c (placed_at t x).own 0 ≡ get_or c x.own 0 = unfold placed_at in refl in
-      counted-more w (preds-next t c x n h ey) (pred-length (diagram_of t) c (placed_at t x) ∙ rw (ek, own, role-count t x))
-
-pub row-cells : {a b a' b' i j : ℕ} → a ≡ a' → b ≡ b' → i ≡ a → j ≡ b → i * j ≡ a' * b'
-row-cells ea eb ei ej = rw (ei, ej, ea, eb)
+pub row_cells : {a b i j : ℕ} → i ≡ a → j ≡ b → i * j ≡ a * b
+row_cells ei ej = rw (ei, ej)
 
 -- at most 4096 rows, of a predicate whose roles are among the first 160 sets
-module _ (t : List ℕ) (x : Cursor) (here : Here t x) {a b i j : ℕ} (few : a ≤ 4096) (eb : b ≡ get_or (drop x.at t) 2 0) (ei : i ≡ a)
-    (ej : j ≡ b) where
-  pub row-cells-few : i * j ≤ 4096 * 160
-  row-cells-few = let narrow : b ≤ 160 = omega (arith, here.roles) in rw (ei, ej) (mul-le-mul few narrow)
+module _ (t : List ℕ) (x : Cursor) (here : Here t x) {i j : ℕ} (few : i ≤ 4096) (ej : j ≡ get_or (drop x.at t) 2 0) where
+  pub row_cells_few : i * j ≤ 4096 * 160
+  row_cells_few = let narrow : j ≤ 160 = omega (arith, here.roles, ej) in mul-le-mul few narrow
 
-  pub cells_fit : Fits w64 (i * j)
-  cells_fit = record { fits = omega (arith, row-cells-few) }
+  pub row_cells_fit : Fits w64 (i * j)
+  row_cells_fit = record { fits = omega (arith, row_cells_few) }
 
-pub cells-counted : (t c : List ℕ) {a b : ℕ} → a ≡ length (type_cells (diagram_of t) c 0 (length (diagram_of t).types))
+pub cells-counted : (t c : List ℕ) {a b : ℕ} → a ≡ length (type_cells (diagram_of t) c (length (diagram_of t).types))
     → b ≡ length (pred_cells t c (placed (diagram_of t)))
     → a + b ≡ length (cells (population (diagram_of t) c))
-unfolding cells population
-cells-counted t c ea eb = rw (ea, eb)
-    (sym (length-append (type_cells (diagram_of t) c 0 (length (diagram_of t).types)) (pred_cells t c (placed (diagram_of t)))))
+cells-counted t c ea eb = counted_more _ _ ea (cells_is t c) eb

@@ -1,8 +1,7 @@
+pub mod Writing
 pub mod TypeLaws
-pub mod RoleLaws
-pub mod ColumnLaws
 pub mod PartLaws
-pub mod Planning
+pub mod RoleLaws
 pub mod RowCells
 pub mod RowLaws
 pub mod PredLaws

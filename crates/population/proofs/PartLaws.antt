@@ -1,29 +1,28 @@
 -- The parts of a predicate as lists of numbers, and how long these are.
-use Prim.Native.Nat.{ℕ, zero, suc, ◌+◌, ◌-◌, min, ◌≤◌, ◌<◌}
-use native.Mathlib.Numerals.{add-one}
+use Prim.Native.Nat.{ℕ, zero, suc, ◌+◌, ◌*◌, ◌-◌, min, ◌≤◌, ◌<◌}
 use native.Mathlib.Nat.{add-zero}
 use native.Mathlib.Omega.{arith}
 use mathlib.Core.Path.{◌≡◌, refl, sym, ap, ap₂, ◌∙◌}
 use mathlib.Core.Bool.{Bool, true, false}
-use mathlib.Core.List.{List, [], ◌∷◌, ◌++◌, map, map-append, map-map, map-id, flat_map}
+use mathlib.Core.List.{List, [], ◌∷◌, ◌++◌, map, map-append, map-map, map-id, flat_map, append-nil}
 use lib.Dec.{eqb}
 use borrow.Author.Tests.{eqb-true}
-use lib.ListN.{length, get_or, drop, take, replicate, length-append, length-map, drop_of_length-le}
-use lib.Seq.{drop-cons, length-take-le}
+use lib.ListN.{length, get_or, drop, take, replicate, length-append, length-map}
+use Rattle.std.specs.Prelude.{sum}
+use Rattle.std.proofs.lemmas.List.{take_more}
+use Rattle.std.proofs.lemmas.List.Sums.{sum_by-cons}
 use Rattle.counting.specs.Lists.{up_from}
 use Rattle.counting.proofs.Laws.Range.{length-up_from}
 use Rattle.counting.proofs.Laws.Maps.{flat_map_append, flat_map-map, flat_map-single}
 use Rattle.orm.specs.Diagram.{Role}
 use Rattle.orm.specs.Sets.{Placed, Part, parts, group_part, role_part, group_set, group_roles, roles_in_group, select}
 use Rattle.orm.specs.Populate.{size}
-use Rattle.buffer.specs.Written.{Wrote, Writing, Splits}
-use Rattle.buffer.specs.Laws.{wrote_then, wrote_as, wrote-end, wrote-front, wrote-within, writing_start}
+use Rattle.table.specs.Positions.{role_width, roles_in, roles_start}
 use Rattle.table.specs.Laws.Walks as walks
 use Rattle.table.specs.Cursors.{placed_at}
-use Rattle.table.specs.Valid.{Under}
-use Rattle.table.specs.Laws.Valid.{under_nil, under-cons, under_append}
 use Rattle.table.specs.declared.Cursor.{Cursor}
-use Rattle.population.specs.Plan.{order, counts, group_counts, owns, sizes_of, SmallArity}
+use Rattle.selection.specs.Laws.Upto.{up_from_more, in_group_none, in_group_more, in_group_same}
+use Rattle.population.specs.Plan.{order, counts, owns, sizes_of, SmallArity}
 
 -- ---- group by group
 
@@ -31,35 +30,32 @@ module _ (x : Placed) (a n : ℕ) where
   abbrev pub grouped : List ℕ
   grouped = flat_map (group_roles x) (up_from a n)
 
+module _ (x : Placed) (n : ℕ) where
+  pub grouped_more : grouped x 1 (n + 1) ≡ grouped x 1 n ++ group_roles x (n + 1)
+  unfolding flat_map
+  grouped_more =
+      let e : 1 + n ≡ n + 1 = omega arith in
+      ap (flat_map (group_roles x)) (up_from_more 1 n) ∙ flat_map_append (group_roles x) (up_from 1 n) ((1 + n) ∷ [])
+      ∙ ap (λ l. grouped x 1 n ++ l) (append-nil (group_roles x (1 + n)) ∙ ap (group_roles x) e)
+
+  abbrev pub group_counts : List ℕ
+  group_counts = map (λ (g : ℕ). length (group_roles x g)) (up_from 1 n)
+
 module _ (x : Placed) where
-  pub grouped-more : (a n : ℕ) → 0 < n → Splits (grouped x a n) (group_roles x a) (grouped x (a + 1) (n - 1))
+  pub grouped_none : grouped x 1 0 ≡ []
   unfolding up_from flat_map
-  grouped-more a zero h = absurd (omega arith)
-  grouped-more a (suc n) h = let e : suc n - 1 ≡ n = omega arith in record { is = rw (e, add-one) }
+  grouped_none = refl
 
-  pub grouped-none : (a n : ℕ) → n ≤ 0 → grouped x a n ≡ []
-  unfolding up_from flat_map
-  grouped-none a zero h = refl
-  grouped-none a (suc n) h = absurd (omega arith)
-
-  pub group-counts-more : (a n : ℕ) {k : ℕ} → 0 < n → k ≡ length (group_roles x a)
-      → Splits (group_counts x (up_from a n)) (k ∷ []) (group_counts x (up_from (a + 1) (n - 1)))
+  pub group_counts_none : group_counts x 0 ≡ []
   unfolding up_from
-  group-counts-more a zero h ek = absurd (omega arith)
-  group-counts-more a (suc n) h ek = let e : suc n - 1 ≡ n = omega arith in record { is = rw (e, add-one, ek) }
+  group_counts_none = refl
 
-  pub group-counts-none : (a n : ℕ) → n ≤ 0 → group_counts x (up_from a n) ≡ []
-  unfolding up_from
-  group-counts-none a zero h = refl
-  group-counts-none a (suc n) h = absurd (omega arith)
-
-pub grouped-start : (t : List ℕ) (x : Cursor) (o : List ℕ) (at : ℕ) {n : ℕ} → n ≡ get_or (drop x.at t) 3 0
-    → Writing o at (grouped (placed_at t x) 1 (get_or (drop x.at t) 3 0)) o at (grouped (placed_at t x) 1 n)
-grouped-start t x o at e = rw e (writing_start o at (grouped (placed_at t x) 1 (get_or (drop x.at t) 3 0)))
-
-pub group-counts-start : (t : List ℕ) (x : Cursor) (o : List ℕ) (at : ℕ) {n : ℕ} → n ≡ get_or (drop x.at t) 3 0
-    → Writing o at (group_counts (placed_at t x) (up_from 1 (get_or (drop x.at t) 3 0))) o at (group_counts (placed_at t x) (up_from 1 n))
-group-counts-start t x o at e = rw e (writing_start o at (group_counts (placed_at t x) (up_from 1 (get_or (drop x.at t) 3 0))))
+  pub group_counts_more : (n : ℕ) {k : ℕ} → k ≡ length (group_roles x (n + 1)) → group_counts x (n + 1) ≡ group_counts x n ++ k ∷ []
+  group_counts_more n {k} ek =
+      let e : 1 + n ≡ n + 1 = omega arith in
+      ap (map (λ (g : ℕ). length (group_roles x g))) (up_from_more 1 n)
+      ∙ map-append (λ (g : ℕ). length (group_roles x g)) (up_from 1 n) ((1 + n) ∷ [])
+      ∙ ap (λ m. group_counts x n ++ m ∷ []) (ap (λ g. length (group_roles x g)) e ∙ sym ek)
 
 -- ---- all parts
 
@@ -83,9 +79,9 @@ module _ (x : Placed) where
   unfolding order parts group_part role_part
   order-parts = simp (flat_map_append, flat_map-map) (ap (λ (l : List ℕ). grouped x 1 group_count ++ l) (flat_map-single (group_roles x 0)))
 
-  counts-parts : counts x ≡ group_counts x (up_from 1 group_count) ++ replicate (length (group_roles x 0)) 1
+  counts-parts : counts x ≡ group_counts x group_count ++ replicate (length (group_roles x 0)) 1
   unfolding counts parts group_part role_part
-  counts-parts = simp (map-append, map-map) (ap (λ (l : List ℕ). group_counts x (up_from 1 group_count) ++ l) (ones (group_roles x 0)))
+  counts-parts = simp (map-append, map-map) (ap (λ (l : List ℕ). group_counts x group_count ++ l) (ones (group_roles x 0)))
 
   own-parts : map (λ (b : Part). b.own) (parts x) ≡ up_from x.groups group_count ++ group_roles x 0
   unfolding parts group_part role_part group_set
@@ -141,10 +137,6 @@ grouped-at-most x a (suc n) =
     unfold group_roles in this_or_later a x.roles x.predicate.roles in
     omega (arith, length-append (group_roles x a) (grouped x (suc a) n), here, grouped-at-most x (suc a) n)
 
-under-map : (f : ℕ → ℕ) (xs : List ℕ) → ((a : ℕ) → f a ≤ 6) → Under 6 (map f xs)
-under-map f [] h = under_nil 6
-under-map f (x ∷ xs) h = under-cons (h x) (under-map f xs h)
-
 module _ (t : List ℕ) (x : Cursor) where
   pub group-count : length (placed_at t x).predicate.groups ≡ get_or (drop x.at t) 3 0
   unfolding placed_at
@@ -176,88 +168,82 @@ module _ (t : List ℕ) (x : Cursor) where
   unfolding counts
   counts-few f = rw length-map (parts-few f)
 
-  pub counted-small : SmallArity t x → Under 6 (counts (placed_at t x))
-  counted-small f =
-      rw (counts-parts (placed_at t x), ← ones (group_roles (placed_at t x) 0))
-      (under_append (group_counts (placed_at t x) (up_from 1 (group_count (placed_at t x)))) (map {B = ℕ} (λ (p : ℕ). 1) (group_roles (placed_at t x) 0))
-      (under-map (λ (g : ℕ). length (group_roles (placed_at t x) g)) (up_from 1 (group_count (placed_at t x))) (λ g. group-few g f))
-      (under-map (λ (p : ℕ). 1) (group_roles (placed_at t x) 0) (λ p. omega arith)))
-
   -- ---- what is written
 
-  pub order_is : {o o₁ o₂ : List ℕ} {at a b : ℕ} → Wrote o at (grouped (placed_at t x) 1 (get_or (drop x.at t) 3 0)) o₁ a
-      → Wrote o₁ a (group_roles (placed_at t x) 0) o₂ b
-      → Wrote o at (order (placed_at t x)) o₂ b
-  order_is w v = wrote_as (wrote_then w v) (rw (← group-count) (sym (order-parts (placed_at t x))))
+  module _ {n : ℕ} (en : n ≡ get_or (drop x.at t) 3 0) where
+    as-many : n ≡ length (placed_at t x).predicate.groups
+    as-many = en ∙ sym group-count
 
-  pub counts-is : {n g k : ℕ} {o o₁ o₂ : List ℕ} {at a b : ℕ} → n ≡ length (parts (placed_at t x)) → g ≡ get_or (drop x.at t) 3 0 → k ≡ n - g
-      → Wrote o at (group_counts (placed_at t x) (up_from 1 (get_or (drop x.at t) 3 0))) o₁ a
-      → Wrote o₁ a (replicate k 1) o₂ b → Wrote o at (counts (placed_at t x)) o₂ b
-  counts-is {n} {g} {k} en eg ek w v =
-      let e : k ≡ length (group_roles (placed_at t x) 0) = omega (arith, en, eg, ek, parts-length (placed_at t x), group-count) in
-      wrote_as (wrote_then w v) (rw (e, ← group-count) (sym (counts-parts (placed_at t x))))
+    pub order_is : order (placed_at t x) ≡ grouped (placed_at t x) 1 n ++ group_roles (placed_at t x) 0
+    order_is = rw as-many (order-parts (placed_at t x))
+
+    pub counts_is : {k : ℕ} → k ≡ length (group_roles (placed_at t x) 0) → counts (placed_at t x) ≡ group_counts (placed_at t x) n ++ replicate k 1
+    counts_is ek = rw (as-many, ek) (counts-parts (placed_at t x))
+
+    pub owns_is : (c : List ℕ) {m q : ℕ} → m ≡ get_or (drop x.at t) 2 0 → q ≡ x.at + roles_start
+        → owns c (placed_at t x) ≡ sizes_of c (up_from x.groups n) ++ sizes_of c (roles_in_group 0 x.roles (roles_in m (drop q t)))
+    unfolding owns group_roles placed_at
+    owns_is c em eq =
+        sym (map-map (size c) (λ (b : Part). b.own) (parts (placed_at t x)))
+        ∙ ap (sizes_of c) (own-parts (placed_at t x) ∙ ap (λ (k : ℕ). up_from x.groups k ++ group_roles (placed_at t x) 0) (sym as-many))
+        ∙ map-append (size c) (up_from x.groups n) (group_roles (placed_at t x) 0)
+        ∙ ap (λ rs. sizes_of c (up_from x.groups n) ++ sizes_of c (roles_in_group 0 x.roles rs)) (sym (walks.roles-here t x.at em eq))
+
+  module _ (f : SmallArity t x) (s : List ℕ) where
+    pub order-room : length s ≡ 6 → length (order (placed_at t x)) ≤ length s
+    order-room e = omega (arith, order-few f, e)
+
+    pub counts-room : length s ≡ 12 → length (counts (placed_at t x)) ≤ length s
+    counts-room e = omega (arith, counts-few f, e)
+
+    pub owns-room : (c : List ℕ) → length s ≡ 12 → length (owns c (placed_at t x)) ≤ length s
+    unfolding owns
+    owns-room c e = omega (arith, length-map (parts (placed_at t x)) (λ (b : Part). size c b.own), parts-few f, e)
+
+-- how many roles the parts have together
+counted : (bs : List Part) → sum (map (λ (b : Part). length b.roles) bs) ≡ length (flat_map (λ (b : Part). b.roles) bs)
+unfolding flat_map
+counted [] = refl
+counted (b ∷ bs) =
+    omega (
+      arith,
+      sum_by-cons (λ x. x) (length b.roles) (map (λ (b : Part). length b.roles) bs),
+      length-append b.roles (flat_map (λ (b : Part). b.roles) bs),
+      counted bs,
+    )
+
+pub counts-order : (x : Placed) → sum (counts x) ≡ length (order x)
+unfolding counts order
+counts-order x = counted (parts x)
 
 -- ---- the sizes of some sets
 
-pub sizes-more : (c sets : List ℕ) (i : ℕ) {n : ℕ} → i < length sets → n ≡ get_or c (get_or sets i 0) 0
-    → Splits (sizes_of c (drop i sets)) (n ∷ []) (sizes_of c (drop (i + 1) sets))
-sizes-more c sets i h en = record { is = ap (sizes_of c) (drop-cons sets i 0 h) ∙ rw (en, add-one) }
+module _ (c : List ℕ) where
+  pub sizes_up_none : (a : ℕ) → sizes_of c (up_from a 0) ≡ []
+  unfolding up_from
+  sizes_up_none a = refl
 
-pub sizes-none : (c sets : List ℕ) (i : ℕ) → length sets ≤ i → sizes_of c (drop i sets) ≡ []
-sizes-none c sets i h = ap (sizes_of c) (drop_of_length-le sets h)
+  pub sizes_up_more : (a n : ℕ) {k : ℕ} → k ≡ get_or c (a + n) 0 → sizes_of c (up_from a (n + 1)) ≡ sizes_of c (up_from a n) ++ k ∷ []
+  sizes_up_more a n ek = ap (sizes_of c) (up_from_more a n) ∙ map-append (size c) (up_from a n) ((a + n) ∷ []) ∙ ap (λ m. sizes_of c (up_from a n) ++ m ∷ []) (sym ek)
 
-pub sizes-up-more : (c : List ℕ) (a n : ℕ) {k : ℕ} → 0 < n → k ≡ get_or c a 0
-    → Splits (sizes_of c (up_from a n)) (k ∷ []) (sizes_of c (up_from (a + 1) (n - 1)))
-unfolding up_from
-sizes-up-more c a zero h ek = absurd (omega arith)
-sizes-up-more c a (suc n) h ek = let e : suc n - 1 ≡ n = omega arith in record { is = rw (e, add-one, ek) }
+  pub sizes_more : (sets : List ℕ) (i : ℕ) {k : ℕ} → i < length sets → k ≡ get_or c (get_or sets i 0) 0
+      → sizes_of c (take (i + 1) sets) ≡ sizes_of c (take i sets) ++ k ∷ []
+  sizes_more sets i h ek =
+      ap (sizes_of c) (take_more sets i 0 h) ∙ map-append (size c) (take i sets) (get_or sets i 0 ∷ []) ∙ ap (λ m. sizes_of c (take i sets) ++ m ∷ []) (sym ek)
 
-pub sizes-up-none : (c : List ℕ) (a n : ℕ) → n ≤ 0 → sizes_of c (up_from a n) ≡ []
-unfolding up_from
-sizes-up-none c a zero h = refl
-sizes-up-none c a (suc n) h = absurd (omega arith)
+  module _ (t : List ℕ) (q first : ℕ) where
+    abbrev alone : ℕ → List ℕ
+    alone n = sizes_of c (roles_in_group 0 first (roles_in n (drop q t)))
 
--- those of the parts
-module _ (t c : List ℕ) (x : Cursor) where
-  owns-parts : {n : ℕ} → n ≡ get_or (drop x.at t) 3 0
-      → sizes_of c (up_from x.groups n) ++ sizes_of c (group_roles (placed_at t x) 0) ≡ owns c (placed_at t x)
-  unfolding owns placed_at
-  owns-parts {n} en =
-      sym (map-append (size c) (up_from x.groups n) (group_roles (placed_at t x) 0))
-      ∙ ap (sizes_of c) (ap (λ (m : ℕ). up_from x.groups m ++ group_roles (placed_at t x) 0) (en ∙ sym (group-count t x))
-      ∙ sym (own-parts (placed_at t x)))
-      ∙ map-map (size c) (λ (b : Part). b.own) (parts (placed_at t x))
+    pub alone_none : alone 0 ≡ []
+    alone_none = ap (sizes_of c) (in_group_none t q 0 first)
 
-  pub part-sizes-is : {n : ℕ} {alone o o₁ o₂ : List ℕ} {at a b : ℕ} → n ≡ get_or (drop x.at t) 3 0 → alone ≡ group_roles (placed_at t x) 0
-      → Wrote o at (sizes_of c (up_from x.groups n)) o₁ a → Wrote o₁ a (sizes_of c alone) o₂ b → Wrote o at (owns c (placed_at t x)) o₂ b
-  part-sizes-is {n} en eo w v =
-      wrote_as (wrote_then w v) (ap (λ (l : List ℕ). sizes_of c (up_from x.groups n) ++ sizes_of c l) eo ∙ owns-parts en)
+    module _ (n : ℕ) {v : ℕ} (e : v ≡ get_or (drop (q + role_width * n) t) 2 0) where
+      pub alone_more : {k : ℕ} → v ≡ 0 → k ≡ get_or c (first + n) 0 → alone (n + 1) ≡ alone n ++ k ∷ []
+      alone_more h ek =
+          ap (sizes_of c) (in_group_more t q 0 first n e h)
+          ∙ map-append (size c) (roles_in_group 0 first (roles_in n (drop q t))) ((first + n) ∷ [])
+          ∙ ap (λ m. alone n ++ m ∷ []) (sym ek)
 
--- the roles of the parts stand at the front of `s₂`
-module _ (t : List ℕ) (x : Cursor) (f : SmallArity t x) {s s₁ s₂ : List ℕ} {a n : ℕ} (room : length s ≡ 6)
-    (w : Wrote s 0 (grouped (placed_at t x) 1 (get_or (drop x.at t) 3 0)) s₁ a) (v : Wrote s₁ a (group_roles (placed_at t x) 0) s₂ n) where
-  roles-fit : length (order (placed_at t x)) ≤ length s
-  roles-fit = omega (arith, order-few t x f, room)
-
-  pub roles-within : n ≤ length s₂
-  roles-within = wrote-within (order_is t x w v) roles-fit
-
-  pub gathered : take n s₂ ≡ order (placed_at t x)
-  gathered = wrote-front (order_is t x w v) roles-fit
-
-  pub gathered-parts : take n s₂ ≡ grouped (placed_at t x) 1 (get_or (drop x.at t) 3 0) ++ group_roles (placed_at t x) 0
-  gathered-parts = gathered ∙ order-parts (placed_at t x)
-      ∙ ap (λ (m : ℕ). grouped (placed_at t x) 1 m ++ group_roles (placed_at t x) 0) (group-count t x)
-
-  pub gathered-end : a ≡ length (grouped (placed_at t x) 1 (get_or (drop x.at t) 3 0))
-  gathered-end = wrote-end w
-      (omega (
-        arith,
-        roles-fit,
-        ap length gathered,
-        ap length gathered-parts,
-        length-append (grouped (placed_at t x) 1 (get_or (drop x.at t) 3 0)) (group_roles (placed_at t x) 0),
-      ))
-
-pub front-count : (l : List ℕ) (m : ℕ) → m ≤ length l → m ≡ length (take m l)
-front-count l m h = sym (length-take-le m l h)
+      pub alone_same : (v ≡ 0 → ⊥) → alone (n + 1) ≡ alone n
+      alone_same h = ap (sizes_of c) (in_group_same t q 0 first n e h)

@@ -1,41 +1,48 @@
 -- The cells of the predicates: what is prepared is small and has room, and its rows are those of the definition.
-use Prim.Native.Nat.{ℕ, suc, ◌+◌, ◌*◌, ◌-◌, ◌≤◌, ◌<◌}
+use Prim.Native.Nat.{ℕ, zero, suc, ◌+◌, ◌*◌, ◌-◌, ◌≤◌, ◌<◌}
+use native.Mathlib.Numerals.{add-one}
 use native.Mathlib.Omega.{arith}
 use mathlib.Core.Path.{◌≡◌, refl, sym, ap, ap₂, ◌∙◌}
 use mathlib.Core.Bool.{Bool, true, false}
 use mathlib.Core.List.Memᴰ.{head as here}
 use mathlib.Core.List.Memᴰ.{tail as there}
-use mathlib.Core.List.{List, [], ◌∷◌, ◌++◌, map, flat_map, flatten}
+use mathlib.Core.List.{List, [], ◌∷◌, ◌++◌, map, map-append, flat_map, flatten, append-nil}
 use lib.Dec.{eqb}
 use lib.ListN.{length, get_or, drop, take, length-append, length-map}
+use Rattle.std.specs.Prelude.{sum, All}
+use Rattle.std.proofs.lemmas.List.{take-append-drop}
+use Rattle.std.proofs.lemmas.List.Elements.{All-cons, All-nil}
+use Rattle.std.proofs.Common.{drop-drop, length-take, length-drop}
+use Rattle.std.proofs.lemmas.List.Sums.{sum_by-cons}
+use Rattle.tuples.specs.declared.Step.{Step}
 use Rattle.counting.specs.Lists.{up_from, map_from}
 use Rattle.counting.specs.Terms.{Each}
 use Rattle.counting.proofs.Laws.Range.{length-up_from}
+use Rattle.counting.proofs.Laws.Maps.{flat_map_append}
 use Rattle.orm.specs.Diagram.{Role, Predicate, Diagram, index, all_roles}
 use Rattle.orm.specs.Sets.{Placed, Part, parts, placed, first_role}
 use Rattle.orm.specs.Population.{cells_of_type, cells_of_pred, cells}
 use Rattle.orm.specs.Populate.{size, taken_before, row, rows, type_values, population}
-use Rattle.buffer.specs.Written.{Wrote, Writing, Splits}
-use Rattle.buffer.specs.Laws.{wrote_then, wrote_as, wrote-front, wrote-whole, wrote-within, writing_start}
 use Rattle.table.specs.Positions.{preds_in, pred_of, pred_count, pred_length, diagram_of, Walkable}
 use Rattle.table.specs.Laws.Walks.{preds_more}
-use Rattle.selection.specs.Selected.{Types}
-use Rattle.table.specs.Cursors.{placed_at, placed_left, first_cursor, next_cursor, Reach}
-use Rattle.table.specs.Laws.Cursors.{placed-start, placed-more, placed-none, reach_here}
-use Rattle.table.specs.Valid.{Valid, Under}
-use Rattle.table.specs.Laws.Valid.{valid-walkable, under_nil, under-cons, under_append}
+use Rattle.selection.specs.Selected.{types_of, Types}
+use Rattle.table.specs.Cursors.{placed_at, placed_left, first_cursor, next_cursor, Reach, Here}
+use Rattle.table.specs.Laws.Cursors.{placed-start, placed-more, placed-none, reach-start, reach-more, reach_here}
+use Rattle.table.specs.Valid.{Valid}
+use Rattle.table.specs.Laws.Valid.{valid-walkable}
 use Rattle.table.specs.declared.Cursor.{Cursor}
-use Rattle.tuples.specs.Steps.{steps, tuple_in, Small}
-use Rattle.tuples.specs.Nested.{steps_of_each, tuples_in, length-steps}
-use Rattle.population.specs.Plan.{order, counts, owns, sizes_of, position, played, column_of, row_by}
-use Rattle.population.specs.Plan.{SmallArity, Wants, Planned, AtPredicate, Ordered, Columned, Owned, PairingSteps, Prepared, Complete}
+use Rattle.tuples.specs.Steps.{steps, Small}
+use Rattle.tuples.specs.StepsLaws.{length-steps}
+use Rattle.tuples.specs.Nested.{steps_of_each}
+use Rattle.population.specs.Plan.{cells_at, order, counts, owns, sizes_of, played, column_of, row_by, Narrow, Wants, Planned, SmallArity, AtPredicate}
+use Rattle.population.specs.declared.rows.Plan.{Plan}
 use Rattle.population.proofs.TypeLaws.{first_small}
-use Rattle.population.proofs.ColumnLaws.{columns_from}
-use Rattle.population.proofs.PartLaws.{order-few, parts-few, role-count, group-count, counts-few, counted-small}
-use Rattle.population.proofs.Planning.{owned-few, owned-wanted, ordered-few}
-use Rattle.population.proofs.RowLaws.{inner, outer, flat-long, row-by, inner-long}
+use Rattle.population.proofs.PartLaws.{order-few, parts-few, role-count, group-count, counts-few, counts-order}
+use Rattle.population.proofs.RoleLaws.{columns_from}
+use Rattle.population.proofs.RowCells.{outer, many-parts, outer-long, inner-long, row-by}
+use Rattle.population.proofs.RowLaws.{rows_to}
 
--- ---- columns are small
+-- ---- columns are narrow
 
 played-few : (number i : ℕ) (ys : List ℕ) → length (played number i ys) ≤ length ys
 unfolding played
@@ -57,191 +64,198 @@ taken-small c p (s ∷ ss) h = go (eqb s p) (taken-small c p ss h)
     go true l = omega arith
     go false l = omega (arith, h.at s)
 
-position-small : (p : ℕ) (ss : List ℕ) → position p ss ≤ length ss
-unfolding position
-position-small p [] = omega arith
-position-small p (s ∷ ss) = go (eqb s p) (position-small p ss)
-  where
-    go : (b : Bool) → position p ss ≤ length ss → elim b as (λ _. ℕ) [ true ↦ 0 | false ↦ suc (position p ss) ] ≤ suc (length ss)
-    go true h = omega arith
-    go false h = omega arith
-
-module _ (t c types roles : List ℕ) (w : Walkable t) (h : Small c) (few : length types ≤ 96) (few' : length roles ≤ 6) where
-  pub columns-small : (p : ℕ) (rs : List Role) → Under 999999 (columns_from (diagram_of t) c types roles p rs)
-  unfolding map_from flatten
-  columns-small p [] = under_nil 999999
-  columns-small p (r ∷ rs) =
+module _ (t c types roles : List ℕ) (w : Walkable t) (h : Small c) (few : length types ≤ 96) where
+  columns-narrow : (p : ℕ) (rs : List Role) → All Narrow (columns_from (diagram_of t) c types roles p rs)
+  unfolding map_from
+  columns-narrow p [] = All-nil Narrow
+  columns-narrow p (r ∷ rs) =
       let d : Diagram = diagram_of t in
       let pl : List ℕ = played r.type (first_role d) types in
-      under_append (column_of d c types roles p r) (columns_from d c types roles (suc p) rs)
-      (under-cons (first_small t (index r.type) w)
-      (under-cons (omega (arith, h.at (index r.type)))
-      (under-cons (omega (arith, taken-small c p pl h, played-few r.type (first_role d) types, few))
-      (under-cons (omega (arith, position-small p roles, few')) (under_nil 999999)))))
-      (columns-small (suc p) rs)
+      All-cons Narrow (column_of d c types roles p r) (columns_from d c types roles (suc p) rs)
+      (record { first = first_small t (index r.type) w; start = omega (arith, taken-small c p pl h, played-few r.type (first_role d) types, few) })
+      (columns-narrow (suc p) rs)
 
-columns-length : (d : Diagram) (c types roles : List ℕ) (p : ℕ) (rs : List Role) → length (columns_from d c types roles p rs) ≡ 4 * length rs
-unfolding map_from flatten
-columns-length d c types roles p [] = refl
-columns-length d c types roles p (r ∷ rs) = omega (arith, columns-length d c types roles (suc p) rs)
+-- ---- what is small
 
--- ---- at the front of the scratch
+map-small : {A : Type 0} (f : A → ℕ) (xs : List A) → ((a : A) → f a ≤ 4096) → (k : ℕ) → get_or (map f xs) k 0 ≤ 4096
+map-small f [] h k = omega arith
+map-small f (x ∷ xs) h zero = h x
+map-small f (x ∷ xs) h (suc k) = map-small f xs h k
 
-owns-length : (c : List ℕ) (y : Placed) → length (owns c y) ≡ length (parts y)
-unfolding owns
-owns-length c y = length-map (parts y) (λ (b : Part). size c b.own)
+pub sizes-small : (c sets : List ℕ) → Small c → Small (sizes_of c sets)
+sizes-small c sets h = record { at = map-small (size c) sets (λ s. h.at s) }
 
-counts-length : (y : Placed) → length (counts y) ≡ length (parts y)
-unfolding counts
-counts-length y = length-map (parts y) (λ (b : Part). length b.roles)
-
-module _ (types roles : List ℕ) {t c : List ℕ} {x : Cursor} (ready : AtPredicate t c x) {s s' : List ℕ} {n : ℕ} (room : length s ≡ 24)
-    (w : Wrote s 0 (columns_from (diagram_of t) c types roles x.roles (placed_at t x).predicate.roles) s' n) where
-  columns-fit : length (columns_from (diagram_of t) c types roles x.roles (placed_at t x).predicate.roles) ≤ length s
-  columns-fit = omega (
-    arith,
-    columns-length (diagram_of t) c types roles x.roles (placed_at t x).predicate.roles,
-    role-count t x,
-    ready.few.roles,
-    room,
-  )
-
-  pub columns-within : n ≤ length s'
-  columns-within = wrote-within w columns-fit
-
-  pub columned : Types t types → Ordered t x roles → Columned t c x roles (take n s')
-  columned typed o = record {
-    ordered = o;
-    types = types;
-    typed = typed;
-    are = wrote-front w columns-fit ∙ ap (λ (l : List ℕ). columns_from (diagram_of t) c types l x.roles (placed_at t x).predicate.roles) o.are;
-  }
-
-module _ {t c sizes os : List ℕ} {x : Cursor} (p : PairingSteps t c x sizes os) where
-  pub stepped-parts : length sizes ≡ length (parts (placed_at t x))
-  stepped-parts = ap length p.owned.are ∙ owns-length c (placed_at t x)
-
-  pub stepped-few : AtPredicate t c x → length sizes ≤ 12
-  stepped-few ready = owned-few p.owned ready.few
-
-module _ {t c : List ℕ} {x : Cursor} (ready : AtPredicate t c x) {s s' : List ℕ} {n : ℕ} where
-  pub stepped : {sizes : List ℕ} → length s ≡ 36 → Owned t c x sizes → Wrote s 0 (steps (get_or c x.own 0) sizes) s' n → PairingSteps t c x sizes s'
-  stepped room o w =
-      let whole : List ℕ = steps (get_or c x.own 0) (owns c (placed_at t x)) in
-      let fits : length whole ≤ length s =
-      omega (arith, length-steps (get_or c x.own 0) (owns c (placed_at t x)), owns-length c (placed_at t x), parts-few t x ready.few, room) in
-      record { owned = o; rest = drop (length whole) s; is = wrote-whole (wrote_as w (ap (steps (get_or c x.own 0)) o.are)) fits }
-
-  module _ (room : length s ≡ 12) (w : Wrote s 0 (counts (placed_at t x)) s' n) where
-    counts-fit : length (counts (placed_at t x)) ≤ length s
-    counts-fit = omega (arith, counts-few t x ready.few, room)
-
-    pub counts-within : n ≤ length s'
-    counts-within = wrote-within w counts-fit
-
-    pub prepared : {roles columns sizes os : List ℕ} → Columned t c x roles columns → PairingSteps t c x sizes os
-        → Prepared t c x roles columns sizes os (take n s')
-    prepared p q = record { columned = p; stepped = q; ks_are = wrote-front w counts-fit }
-
-module _ {t c roles columns sizes os ks : List ℕ} {x : Cursor} (ready : AtPredicate t c x) (p : Prepared t c x roles columns sizes os ks) where
-  pub prepared-few : length roles ≤ 6
-  prepared-few = ordered-few t x ready.few p.columned.ordered
-
-  pub prepared-wanted : Wants sizes ks
-  prepared-wanted = owned-wanted p.stepped.owned ready.few ready.sizes
-      (rw p.ks_are (record { at = λ k. omega (arith, (counted-small t x ready.few).at k) }))
-
--- ---- the rows
-
-flat_rows : (f : ℕ → List ℕ) (g : ℕ → List ℕ) (is : List ℕ) → ((i : ℕ) → f i ≡ g i) → flat_map f is ≡ flatten (map g is)
-unfolding flat_map flatten
-flat_rows f g [] h = refl
-flat_rows f g (i ∷ is) h = ap₂ {C = List ℕ} (λ a b. a ++ b) (h i) (flat_rows f g is h)
-
-module _ {t c : List ℕ} {x : Cursor} (ready : AtPredicate t c x) {roles columns sizes os ks is is' : List ℕ} {a : ℕ}
-    (p : Prepared t c x roles columns sizes os ks) (room : length is ≡ 18) (w : Wrote is 0 (steps_of_each sizes ks (sizes_of c roles)) is' a) where
-  abbrev px : Placed
+module _ (t c : List ℕ) (x : Cursor) (ready : AtPredicate t c x) where
+  px : Placed
   px = placed_at t x
 
-  rest' : List ℕ
-  rest' = drop (length (inner c px)) is
+  pub owns-small : Small (owns c (placed_at t x))
+  unfolding owns
+  owns-small = record { at = map-small (λ (b : Part). size c b.own) (parts (placed_at t x)) (λ b. ready.sizes.at b.own) }
 
-  inner-whole : is' ≡ inner c px ++ rest'
-  unfolding rest'
-  inner-whole = wrote-whole (rw (p.stepped.owned.are, p.ks_are, p.columned.ordered.are) at w)
-      (omega (arith, inner-long c px, order-few t x ready.few, room))
+  owns-long : length (owns c (placed_at t x)) ≡ length (parts (placed_at t x))
+  unfolding owns
+  owns-long = length-map (parts (placed_at t x)) (λ (b : Part). size c b.own)
 
-  outer-whole : os ≡ outer c px ++ p.stepped.rest
+  pub owns-few : length (owns c (placed_at t x)) ≤ 12
+  owns-few = omega (arith, owns-long, parts-few t x ready.few)
+
+  pub wanted : Wants (owns c (placed_at t x)) (counts (placed_at t x)) (sizes_of c (order (placed_at t x)))
+  wanted =
+      let long : length (sizes_of c (order (placed_at t x))) ≡ length (order (placed_at t x)) = length-map (order (placed_at t x)) (size c) in
+      record {
+        wanted = owns-small;
+        counted = owns-long ∙ sym (many-parts c (placed_at t x));
+        sized = counts-order (placed_at t x) ∙ sym long;
+        few = omega (arith, long, order-few t x ready.few);
+      }
+
+each-long : (ws ks s : List ℕ) → length ws ≡ length ks → sum ks ≤ length s → length (steps_of_each ws ks s) ≡ sum ks
+unfolding steps_of_each
+each-long [] [] s e h = refl
+each-long [] (k ∷ ks) s e h = absurd (omega arith)
+each-long (w ∷ ws) [] s e h = absurd (omega arith)
+each-long (w ∷ ws) (k ∷ ks) s e h =
+    let all : sum (k ∷ ks) ≡ k + sum ks = sum_by-cons (λ x. x) k ks in
+    omega (
+      arith,
+      all,
+      length-append (steps w (take k s)) (steps_of_each ws ks (drop k s)),
+      length-steps w (take k s),
+      length-take k s,
+      length-drop k s,
+      each-long ws ks (drop k s) (omega arith) (omega (arith, all, length-drop k s)),
+    )
+
+pub each-room : {ws ks sizes : List ℕ} → Wants ws ks sizes → (s : List Step) → length s ≡ 6 → length (steps_of_each ws ks sizes) ≤ length s
+each-room {ws} {ks} {sizes} w s e = omega (arith, each-long ws ks sizes w.counted (omega (arith, w.sized)), w.sized, w.few)
+
+pub steps-room : (n : ℕ) (sizes : List ℕ) → length sizes ≤ 12 → (s : List Step) → length s ≡ 12 → length (steps n sizes) ≤ length s
+steps-room n sizes h s e = omega (arith, length-steps n sizes)
+
+-- ---- what is prepared
+
+-- The plan of the predicate at `x`
+pub record Ready (t c types : List ℕ) (x : Cursor) (p : Plan) : Type 0 where
+  pub columns : p.columns.now ≡ columns_from (diagram_of t) c types (order (placed_at t x)) x.roles (placed_at t x).predicate.roles
+  pub outer_steps : p.outer.now ≡ steps (get_or c x.own 0) (owns c (placed_at t x))
+  pub role_counts : p.counts.now ≡ counts (placed_at t x)
+  pub inner_steps : p.inner.now ≡ steps_of_each (owns c (placed_at t x)) (counts (placed_at t x)) (sizes_of c (order (placed_at t x)))
+
+pub ready : (t c types : List ℕ) (x : Cursor) {p : Plan} {roles sizes ks : List ℕ} {n : ℕ}
+    → roles ≡ order (placed_at t x) → sizes ≡ owns c (placed_at t x) → ks ≡ counts (placed_at t x) → n ≡ get_or c x.own 0
+    → p.columns.now ≡ columns_from (diagram_of t) c types roles x.roles (placed_at t x).predicate.roles
+    → p.outer.now ≡ steps n sizes → p.counts.now ≡ ks → p.inner.now ≡ steps_of_each sizes ks (sizes_of c roles) → Ready t c types x p
+ready t c types x er es ek en ec eo eks ei = record {
+  columns = ec ∙ ap (λ l. columns_from (diagram_of t) c types l x.roles (placed_at t x).predicate.roles) er;
+  outer_steps = eo ∙ ap₂ {C = List Step} steps en es;
+  role_counts = eks ∙ ek;
+  inner_steps = ei ∙ rw (er, es, ek) refl;
+}
+
+module _ {t c types : List ℕ} {x : Cursor} (at_x : AtPredicate t c x) (typed : Types t types) {p : Plan} (r : Ready t c types x p) where
+  outer-is : p.outer.now ≡ outer c (placed_at t x)
   unfolding placed_at
-  outer-whole = p.stepped.is
+  outer-is = r.outer_steps
 
-  columns-whole : columns ≡ columns_from (diagram_of t) c p.columned.types (order px) px.roles px.predicate.roles
+  pub planned : Planned p
+  planned = record {
+    few = omega (arith, ap length r.role_counts, counts-few t x at_x.few);
+    stepped = omega (arith, ap length outer-is, ap length r.role_counts, outer-long c (placed_at t x), many-parts c (placed_at t x));
+    there = omega (arith, ap sum r.role_counts, ap length r.inner_steps, inner-long c (placed_at t x), counts-order (placed_at t x));
+    enough = omega (arith, ap sum r.role_counts, counts-order (placed_at t x), order-few t x at_x.few);
+    narrow = rw r.columns
+        (columns-narrow t c types (order (placed_at t x)) at_x.walk at_x.sizes typed.few x.roles (placed_at t x).predicate.roles);
+  }
+
+  row_made : (i : ℕ) → row_by p i ≡ row (diagram_of t) c (placed_at t x) i
   unfolding placed_at
-  columns-whole = p.columned.are
+  row_made i =
+      let same : (placed_at t x).roles ≡ x.roles = unfold placed_at in refl in
+      rw (r.columns, outer-is, r.role_counts, r.inner_steps, ← same) (row-by (diagram_of t) c (placed_at t x) typed.are i)
 
-  columns-wide : 4 * get_or (drop x.at t) 2 0
-      ≤ length (columns_from (diagram_of t) c p.columned.types (order px) px.roles px.predicate.roles)
-  columns-wide = omega (
-    arith,
-    columns-length (diagram_of t) c p.columned.types (order px) px.roles px.predicate.roles,
-    role-count t x,
-  )
-
-  outer-there : 3 * length (counts px) ≤ length (outer c px ++ p.stepped.rest)
-  outer-there = omega (
-    arith,
-    length-append (outer c px) p.stepped.rest,
-    length-steps (size c px.own) (owns c px),
-    owns-length c px,
-    counts-length px,
-  )
-
-  inner-there : (i : ℕ) → 3 * length (tuples_in (inner c px ++ rest') (counts px) (tuple_in (outer c px ++ p.stepped.rest) (length (counts px)) i))
-      ≤ length (inner c px ++ rest')
-  inner-there i = omega (arith, flat-long c px p.stepped.rest rest' i, length-append (inner c px) rest', inner-long c px)
-
-  prepared-planned : Planned (get_or (drop x.at t) 2 0) columns os ks is'
-  prepared-planned =
-      rw (columns-whole, outer-whole, p.ks_are, inner-whole)
-      (record {
-        wide = columns-wide;
-        stepped = outer-there;
-        there = inner-there;
-        few = counts-few t x ready.few;
-        counted = record { at = λ k. omega (arith, (counted-small t x ready.few).at k) };
-        small = columns-small t c p.columned.types (order px) ready.walk ready.sizes p.columned.typed.few
-            (order-few t x ready.few) px.roles px.predicate.roles;
-        enough = λ i. omega (arith, flat-long c px p.stepped.rest rest' i, order-few t x ready.few);
-      })
-
-  row_made : (i : ℕ) → row_by columns (get_or (drop x.at t) 2 0) os ks is' i ≡ row (diagram_of t) c px i
-  row_made i = rw (columns-whole, outer-whole, p.ks_are, inner-whole, ← role-count t x)
-      (row-by (diagram_of t) c px p.columned.typed.are p.stepped.rest rest' i)
-
-  pub prepared-complete : Complete t c x columns os ks is'
-  prepared-complete = record { planned = prepared-planned; gives = row_made }
-
-module _ {t c columns os ks is : List ℕ} {x : Cursor} (p : Complete t c x columns os ks is) where
-  pub complete-planned : {m : ℕ} → m ≡ get_or (drop x.at t) 2 0 → Planned m columns os ks is
-  complete-planned e = rw e p.planned
-
-  abbrev at_x : Placed
-  at_x = placed_at t x
+  flat_rows : (is : List ℕ) → flat_map (row_by p) is ≡ flatten (map (row (diagram_of t) c (placed_at t x)) is)
+  unfolding flat_map flatten
+  flat_rows [] = refl
+  flat_rows (i ∷ is) = ap₂ {C = List ℕ} (λ a b. a ++ b) (row_made i) (flat_rows is)
 
   -- the size, then the rows
-  pub pred-is : {n m to b at : ℕ} {o o₁ o₂ : List ℕ} → n ≡ get_or c x.own 0 → m ≡ get_or (drop x.at t) 2 0 → Wrote o at (n ∷ []) o₁ to
-      → Wrote o₁ to (flat_map (row_by columns m os ks is) (up_from 0 n)) o₂ b → Wrote o at (cells_of_pred (rows (diagram_of t) c (placed_at t x))) o₂ b
+  pub pred-is : {n : ℕ} → n ≡ get_or c x.own 0 → cells_at t c x ≡ (n ∷ []) ++ rows_to p n
   unfolding cells_of_pred rows
-  pred-is {n} {m} en em w v =
-      let own : n ≡ size c at_x.own = unfold placed_at in en in
-      let many : length (map (row (diagram_of t) c at_x) (up_from 0 (size c at_x.own))) ≡ size c at_x.own = length-map
-      (up_from 0 (size c at_x.own)) (row (diagram_of t) c at_x) ∙ length-up_from 0 (size c at_x.own) in
-      wrote_as (wrote_then w v)
-      (ap₂ {C = List ℕ} (λ k l. k ∷ l) (own ∙ sym many)
-      (flat_rows (row_by columns m os ks is) (row (diagram_of t) c at_x) (up_from 0 n) (λ i. rw em (p.gives i))
-      ∙ ap (λ (k : ℕ). flatten (map (row (diagram_of t) c at_x) (up_from 0 k))) own))
+  pred-is {n} en =
+      let own : size c (placed_at t x).own ≡ n = unfold placed_at in sym en in
+      let many : length (map (row (diagram_of t) c (placed_at t x)) (up_from 0 (size c (placed_at t x).own))) ≡ n =
+      length-map (up_from 0 (size c (placed_at t x).own)) (row (diagram_of t) c (placed_at t x))
+      ∙ length-up_from 0 (size c (placed_at t x).own) ∙ own in
+      ap₂ {C = List ℕ} (λ k l. k ∷ l) many
+      (ap (λ (k : ℕ). flatten (map (row (diagram_of t) c (placed_at t x)) (up_from 0 k))) own ∙ sym (flat_rows (up_from 0 n)))
 
--- ---- all predicates
+take_suc : {A : Type 0} (xs : List A) (k : ℕ) {a : A} {rest : List A} → drop k xs ≡ a ∷ rest → take (suc k) xs ≡ take k xs ++ a ∷ []
+take_suc xs zero e = ap (take 1) e
+take_suc [] (suc k) e = absurd (omega (arith, ap length e))
+take_suc (x ∷ xs) (suc k) e = ap (λ l. x ∷ l) (take_suc xs k e)
+
+take_next : {A : Type 0} (xs : List A) (k : ℕ) {a : A} {rest : List A} → drop k xs ≡ a ∷ rest → take (k + 1) xs ≡ take k xs ++ a ∷ []
+take_next xs k e = rw add-one (take_suc xs k e)
+
+-- ---- the walk
+
+-- The first `k` predicates were passed, and the next is at `x`
+pub record Walking (t : List ℕ) (x : Cursor) (k : ℕ) : Type 0 where
+  pub left : placed_left (pred_count t - k) t x ≡ drop k (placed (diagram_of t))
+  pub reach : Reach t x (pred_count t - k)
+
+module _ (t c : List ℕ) where
+  abbrev pub pred_cells : List Placed → List ℕ
+  pred_cells ys = flat_map cells_of_pred (map (rows (diagram_of t) c) ys)
+
+  -- of the first `k`
+  abbrev pub cells_to : ℕ → List ℕ
+  cells_to k = pred_cells (take k (placed (diagram_of t)))
+
+  pub walking_start : {x : Cursor} → Walkable t → x ≡ first_cursor t → Walking t x 0
+  walking_start w ex =
+      let e : pred_count t - 0 ≡ pred_count t = omega arith in
+      record { left = placed-start t ex e; reach = reach-start t w ex e }
+
+  pub cells_none : cells_to 0 ≡ []
+  unfolding flat_map
+  cells_none = refl
+
+  module _ {x : Cursor} {k : ℕ} (w : Walking t x k) {n : ℕ} (en : n ≡ pred_count t) (h : k < n) where
+    pub walking-here : Here t x
+    walking-here = reach_here t x (pred_count t - k) w.reach (omega arith)
+
+    pub walking_more : {y : Cursor} → y ≡ next_cursor t x → Walking t y (k + 1)
+    walking_more {y} ey =
+        let e : pred_count t - k - 1 ≡ pred_count t - (k + 1) = omega arith in
+        let opened : drop k (placed (diagram_of t)) ≡ placed_at t x ∷ placed_left (pred_count t - k - 1) t y =
+        sym w.left ∙ placed-more t x (pred_count t - k) (omega arith) ey in
+        let behind : drop (k + 1) (placed (diagram_of t)) ≡ placed_left (pred_count t - k - 1) t y =
+        sym (drop-drop 1 k (placed (diagram_of t))) ∙ ap (drop 1) opened in
+        record {
+          left = rw (← e) (sym behind);
+          reach = rw (← e) (reach-more t x (pred_count t - k) w.reach (omega arith) ey);
+        }
+
+    pub cells_more : cells_to (k + 1) ≡ cells_to k ++ cells_at t c x
+    unfolding flat_map
+    cells_more =
+        let opened : drop k (placed (diagram_of t)) ≡ placed_at t x ∷ placed_left (pred_count t - k - 1) t (next_cursor t x) =
+        sym w.left ∙ placed-more t x (pred_count t - k) (omega arith) refl in
+        ap pred_cells (take_next (placed (diagram_of t)) k opened)
+        ∙ ap (flat_map cells_of_pred) (map-append (rows (diagram_of t) c) (take k (placed (diagram_of t))) (placed_at t x ∷ []))
+        ∙ flat_map_append cells_of_pred (map (rows (diagram_of t) c) (take k (placed (diagram_of t)))) (rows (diagram_of t) c (placed_at t x) ∷ [])
+        ∙ ap (λ l. cells_to k ++ l) (append-nil (cells_at t c x))
+
+  pub cells_all : {x : Cursor} {n : ℕ} → Walking t x n → n ≡ pred_count t → pred_cells (placed (diagram_of t)) ≡ cells_to n
+  cells_all {x} {n} w en =
+      let none : drop n (placed (diagram_of t)) ≡ [] = sym w.left ∙ placed-none t x (pred_count t - n) (omega arith) in
+      let whole : placed (diagram_of t) ≡ take n (placed (diagram_of t)) =
+      sym (take-append-drop n (placed (diagram_of t))) ∙ ap (λ l. take n (placed (diagram_of t)) ++ l) none ∙ append-nil (take n (placed (diagram_of t))) in
+      ap pred_cells whole
+
+-- ---- few roles and groups
 
 pub record FewLeft (t : List ℕ) (x : Cursor) (n : ℕ) : Type 0 where
   pub each : Each (λ (p : Predicate). (length p.roles ≤ 6) × (length p.groups ≤ 6)) (preds_in n (drop x.at t))
@@ -262,41 +276,27 @@ module _ {t : List ℕ} {x : Cursor} {n : ℕ} (f : FewLeft t x n) (h : 0 < n) w
   pub few-more : {y : Cursor} → y ≡ next_cursor t x → FewLeft t y (n - 1)
   few-more e = record { each = rw e (λ p m. split p (there m)) }
 
-pub ready_here : {t c : List ℕ} {x : Cursor} {n : ℕ} → Valid t → Small c → Reach t x n → 0 < n → FewLeft t x n → AtPredicate t c x
-ready_here {t} {x = x} {n = n} v s r h f = record { walk = valid-walkable v; sizes = s; here = reach_here t x n r h; few = few-here f h }
+module _ {t c : List ℕ} (v : Valid t) (s : Small c) {n k : ℕ} (en : n ≡ pred_count t) (h : k < n) where
+  pub ready_here : {x : Cursor} → Walking t x k → FewLeft t x (n - k) → AtPredicate t c x
+  ready_here w f = record { walk = valid-walkable v; sizes = s; here = walking-here t c w en h; few = few-here f (omega arith) }
 
-module _ (t c : List ℕ) where
-  abbrev pub pred_cells : List Placed → List ℕ
-  pred_cells ys = flat_map cells_of_pred (map (rows (diagram_of t) c) ys)
+  pub few_next : {x y : Cursor} → FewLeft t x (n - k) → y ≡ next_cursor t x → FewLeft t y (n - (k + 1))
+  few_next f e = let m : n - k - 1 ≡ n - (k + 1) = omega arith in rw (← m) (few-more f (omega arith) e)
 
-  pub preds-start : (o : List ℕ) (at : ℕ) {x : Cursor} {n : ℕ} → x ≡ first_cursor t → n ≡ pred_count t
-      → Writing o at (pred_cells (placed (diagram_of t))) o at (pred_cells (placed_left n t x))
-  preds-start o at ex en = rw (placed-start t ex en) (writing_start o at (pred_cells (placed (diagram_of t))))
-
-  pub preds-next : (x : Cursor) (n : ℕ) {y : Cursor} → 0 < n → y ≡ next_cursor t x
-      → Splits (pred_cells (placed_left n t x)) (cells_of_pred (rows (diagram_of t) c (placed_at t x))) (pred_cells (placed_left (n - 1) t y))
-  unfolding flat_map
-  preds-next x n h e = record { is = ap pred_cells (placed-more t x n h e) }
-
-  pub preds-end : (x : Cursor) (n : ℕ) → n ≤ 0 → pred_cells (placed_left n t x) ≡ []
-  unfolding flat_map
-  preds-end x n h = ap pred_cells (placed-none t x n h)
+pub few_start : {t : List ℕ} {x : Cursor} {n : ℕ} → Valid t → x ≡ first_cursor t → n ≡ pred_count t → FewLeft t x (n - 0)
+few_start {n = n} v ex en = let e : n - 0 ≡ n = omega arith in rw e (few-start v ex en)
 
 -- ---- all cells
 
-module _ {t s s' : List ℕ} {n : ℕ} (v : Valid t) (room : length s ≡ 96)
-    (w : Wrote s 0 (map (λ (r : Role). r.type) (all_roles (diagram_of t))) s' n) where
-  types-fit : length (map (λ (r : Role). r.type) (all_roles (diagram_of t))) ≤ length s
-  types-fit = rw length-map (omega (arith, v.formed.role_count, room))
+pub types-room : {t : List ℕ} → Valid t → (s : List ℕ) → length s ≡ 96 → length (types_of (all_roles (diagram_of t))) ≤ length s
+types-room v s e = rw length-map (omega (arith, v.formed.role_count, e))
 
-  pub types-within : n ≤ length s'
-  types-within = wrote-within w types-fit
+pub types-listed : {t : List ℕ} → Valid t → {xs : List ℕ} → xs ≡ types_of (all_roles (diagram_of t)) → Types t xs
+types-listed {t} v {xs} e =
+    record { are = e; few = omega (arith, ap length e, length-map (all_roles (diagram_of t)) (λ (r : Role). r.type), v.formed.role_count) }
 
-  pub types-listed : Types t (take n s')
-  types-listed = rw (wrote-front w types-fit) (record { are = refl; few = omega (arith, types-fit, room) })
-
-pub cells_is : (t c : List ℕ) {o o₁ o₂ : List ℕ} {at a b : ℕ}
-    → Wrote o at (flat_map cells_of_type (map (type_values (diagram_of t) c) (up_from 0 (length (diagram_of t).types)))) o₁ a
-    → Wrote o₁ a (pred_cells t c (placed (diagram_of t))) o₂ b → Wrote o at (cells (population (diagram_of t) c)) o₂ b
+pub cells_is : (t c : List ℕ)
+    → cells (population (diagram_of t) c)
+    ≡ flat_map cells_of_type (map (type_values (diagram_of t) c) (up_from 0 (length (diagram_of t).types))) ++ pred_cells t c (placed (diagram_of t))
 unfolding cells population
-cells_is t c w v = wrote_then w v
+cells_is t c = refl

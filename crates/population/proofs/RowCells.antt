@@ -1,145 +1,182 @@
--- A row from what is prepared: its cells one after another.
-use Prim.Native.Nat.{ℕ, zero, suc, ◌+◌, ◌*◌, ◌-◌, ◌%◌, ◌≤◌, ◌<◌}
-use native.Mathlib.Numerals.{add-one}
+-- The row that is made from what is prepared is the row of the definition.
+use Prim.Native.Nat.{ℕ, suc, ◌+◌, ◌%◌}
 use native.Mathlib.Omega.{arith}
-use mathlib.Core.Path.{◌≡◌, refl, sym, ap, ◌∙◌}
-use mathlib.Core.List.{List, [], ◌∷◌, flat_map}
-use lib.ListN.{length, get_or, drop, take}
-use lib.Seq.{get_or-drop}
-use Rattle.counting.specs.Lists.{up_from}
-use Rattle.buffer.specs.Written.{Wrote, Splits}
-use Rattle.buffer.specs.Laws.{wrote_as}
-use Rattle.table.specs.Positions.{each}
-use Rattle.table.specs.Laws.Walks.{each_more, each_none}
-use Rattle.table.specs.Valid.{Under}
-use Rattle.table.specs.Laws.Valid.{under_nil, under-cons, under_append}
-use Rattle.tuples.specs.Steps.{tuple_in, index_before, entry_at, Small, Spanned}
-use Rattle.tuples.specs.StepsLaws.{length-tuple_in, entry-small, index-small}
-use Rattle.tuples.specs.Stored.{Stored, stored-front, stored-long}
-use Rattle.tuples.specs.Nested.{tuples_in, Indices, Roomy}
-use Rattle.population.specs.Plan.{cell_of, row_by, Room, Planned}
+use mathlib.Core.Path.{◌≡◌, refl, sym, ap, ap₂, ◌∙◌}
+use mathlib.Core.Bool.{Bool, true, false}
+use mathlib.Core.List.{List, [], ◌∷◌, ◌++◌, map, map-append, flat_map, flatten, zip_with}
+use lib.Dec.{eqb}
+use lib.ListN.{length, get_or, length-append, length-map}
+use Rattle.counting.specs.Lists.{map_from}
+use Rattle.counting.proofs.Laws.Maps.{map_congr}
+use Rattle.orm.specs.Diagram.{Role, Diagram, index, all_roles}
+use Rattle.orm.specs.Sets.{Placed, Part, parts, select, roles_of_type, first_role}
+use Rattle.orm.specs.Supertypes.{first_value}
+use Rattle.orm.specs.Populate.{size, taken_before, part_tuple, parts_of_row, lookup, index_in_row, member_of, row}
+use Rattle.tuples.specs.Steps.{steps, tuple_of}
+use Rattle.tuples.specs.StepsLaws.{length-tuple_of, length-steps, steps-row}
+use Rattle.tuples.specs.Nested.{steps_of_each, tuples_in}
+use Rattle.tuples.specs.NestedLaws.{each-steps, each_row}
+use Rattle.tuples.specs.declared.Step.{Step}
+use Rattle.population.specs.Plan.{order, counts, owns, sizes_of, position, played, cell_of}
+use Rattle.population.proofs.RoleLaws.{columns_from}
 
-pub column-is : (columns : List ℕ) (p i : ℕ) → get_or columns (p + i) 0 ≡ get_or (drop p columns) i 0
-column-is columns p i = sym (get_or-drop p columns i 0)
+-- ---- looking up a role
 
-pub column-small : (columns : List ℕ) (i : ℕ) → Under 999999 columns → get_or columns i 0 ≤ 999999
-column-small columns i u = u.at i
+pub lookup-position : (p : ℕ) (ss js : List ℕ) → length js ≡ length ss → lookup p ss js ≡ get_or js (position p ss) 0
+unfolding lookup position
+lookup-position p [] [] e = refl
+lookup-position p [] (j ∷ js) e = absurd (omega arith)
+lookup-position p (s ∷ ss) [] e = absurd (omega arith)
+lookup-position p (s ∷ ss) (j ∷ js) e = go (eqb s p) (lookup-position p ss js (omega arith))
+  where
+    go : (b : Bool) → lookup p ss js ≡ get_or js (position p ss) 0
+        → elim b as (λ _. ℕ) [ true ↦ j | false ↦ lookup p ss js ] ≡ get_or (j ∷ js) (elim b as (λ _. ℕ) [ true ↦ 0 | false ↦ suc (position p ss) ]) 0
+    go true h = refl
+    go false h = h
 
-pub member_is : (flat : List ℕ) (place : ℕ) {i r : ℕ} → i ≡ place → r ≡ get_or (drop 0 flat) i 0 → r ≡ get_or flat place 0
-member_is flat place ei er = er ∙ ap (λ (n : ℕ). get_or flat n 0) ei
+-- ---- the roles of a type
 
-pub member-small : (flat : List ℕ) (i : ℕ) {r : ℕ} → Under 16384 flat → r ≡ get_or (drop 0 flat) i 0 → r ≤ 16384
-member-small flat i u e = rw e (u.at i)
+pub played-select : (number i : ℕ) (rs : List Role)
+    → played number i (map (λ (r : Role). r.type) rs) ≡ select (λ (r : Role). eqb r.type number) i rs
+unfolding played select
+played-select number i [] = refl
+played-select number i (r ∷ rs) = go (eqb r.type number) (played-select number (suc i) rs)
+  where
+    go : (b : Bool) → played number (suc i) (map (λ (r : Role). r.type) rs) ≡ select (λ (r : Role). eqb r.type number) (suc i) rs
+        → ◌≡◌ {A = List ℕ} (elim b as
+        (λ _. List ℕ) [
+          | true ↦ i ∷ played number (suc i) (map (λ (r : Role). r.type) rs)
+          | false ↦ played number (suc i)
+              (map (λ (r : Role). r.type) rs)
+        ])
+        (elim b as (λ _. List ℕ) [
+          | true ↦ i ∷ select (λ (r : Role). eqb r.type number) (suc i) rs
+          | false ↦ select
+              (λ (r : Role). eqb r.type number) (suc i) rs
+        ])
+    go true h = ap {B = List ℕ} (λ l. i ∷ l) h
+    go false h = h
 
-pub cell_is : (flat s : List ℕ) {v n k m j r : ℕ} → v ≡ get_or s 0 0 → n ≡ get_or s 1 0 → k ≡ get_or s 2 0 → m ≡ get_or s 3 0 → j ≡ get_or flat m 0
-    → r ≡ (k + j) % n → v + r ≡ cell_of flat s
-unfolding cell_of
-cell_is flat s ev en ek em ej er = rw (er, ej, em, ek, en, ev)
+-- ---- a row by parts
 
-pub row_more : (flat columns : List ℕ) (p n : ℕ) {x : ℕ} → 0 < n → x ≡ cell_of flat (drop p columns)
-    → Splits (each (cell_of flat) 4 n (drop p columns)) (x ∷ []) (each (cell_of flat) 4 (n - 1) (drop (p + 4) columns))
-row_more flat columns p n h e = record { is = each_more (cell_of flat) 4 columns p n h ∙ rw e }
+module _ (c : List ℕ) (x : Placed) where
+  abbrev pub want : Part → ℕ
+  want b = size c b.own
 
-pub row-none : (flat columns : List ℕ) (p n : ℕ) → n ≤ 0 → each (cell_of flat) 4 n (drop p columns) ≡ []
-row-none flat columns p n h = each_none (cell_of flat) 4 n (drop p columns) h
+  abbrev role_sizes : Part → List ℕ
+  role_sizes b = map (size c) b.roles
 
--- ---- indices are small: a row's is at most 4096, and a pairing at most doubles it, for the parts of the row and for the roles of a part
+  counts-are : map (λ (b : Part). length (role_sizes b)) (parts x) ≡ counts x
+  unfolding counts
+  counts-are = map_congr (λ (b : Part). length (role_sizes b)) (λ (b : Part). length b.roles) (parts x) (λ b m. length-map b.roles (size c))
 
-under_weaken : {b b' : ℕ} {xs : List ℕ} → b ≤ b' → Under b xs → Under b' xs
-under_weaken h u = record { at = λ k. omega (arith, u.at k) }
+  sizes-are : (bs : List Part) → flat_map role_sizes bs ≡ map (size c) (flat_map (λ (b : Part). b.roles) bs)
+  unfolding flat_map
+  sizes-are [] = refl
+  sizes-are (b ∷ bs) = ap {B = List ℕ} (λ l. role_sizes b ++ l) (sizes-are bs) ∙ sym
+      (map-append (size c) b.roles (flat_map (λ (b : Part). b.roles) bs))
 
-tuple_under : (s : List ℕ) (k i : ℕ) → Under (2 * i) (tuple_in s k i)
-unfolding tuple_in
-tuple_under s zero i = under_nil (2 * i)
-tuple_under s (suc zero) i = under-cons (omega arith) (under_nil (2 * i))
-tuple_under s (suc (suc k)) i =
-    under_append (tuple_in s (suc k) (index_before s (suc k) i)) (entry_at s (suc k) i ∷ [])
-    (under_weaken (omega (arith, index-small s (suc k) i)) (tuple_under s (suc k) (index_before s (suc k) i)))
-    (under-cons (entry-small s (suc k) i) (under_nil (2 * i)))
+  abbrev pub inner : List Step
+  inner = steps_of_each (owns c x) (counts x) (sizes_of c (order x))
 
-tuples-under : (s ks is : List ℕ) → Under 8192 is → Under 16384 (tuples_in s ks is)
-unfolding tuples_in
-tuples-under s ks [] u = under_nil 16384
-tuples-under s ks (i ∷ is) u =
-    under_append (tuple_in s (get_or ks 0 0) i) (tuples_in (drop (3 * get_or ks 0 0) s) (drop 1 ks) is)
-    (under_weaken (omega (arith, u.at 0)) (tuple_under s (get_or ks 0 0) i))
-    (tuples-under (drop (3 * get_or ks 0 0) s) (drop 1 ks) is (record { at = λ k. u.at (suc k) }))
+  inner-is : inner ≡ flat_map (λ (b : Part). steps (want b) (role_sizes b)) (parts x)
+  unfolding owns order
+  inner-is =
+      ap₂ {C = List Step} (λ k s. steps_of_each (map want (parts x)) k s) (sym counts-are) (sym (sizes-are (parts x)))
+      ∙ each-steps want role_sizes (parts x)
 
--- ---- a row by parts, at the front of the scratch
+  abbrev pub outer : List Step
+  outer = steps (size c x.own) (owns c x)
 
-module _ {inner ks rows : List ℕ} (r : Room inner ks rows) where
-  pub room-counted : Small ks
-  room-counted = r.counted
+  pub many-parts : length (counts x) ≡ length (parts x)
+  unfolding counts
+  many-parts = length-map (parts x) (λ (b : Part). length b.roles)
 
-  pub room-indices : Indices rows
-  room-indices = record { at = λ k. omega (arith, r.indices k) }
+  pub outer-long : length outer ≡ length (parts x)
+  unfolding owns
+  outer-long = length-steps (size c x.own) (owns c x) ∙ length-map (parts x) want
 
-  pub room_roomy : {s : List ℕ} → length s ≡ 6 → Roomy inner ks rows s
-  room_roomy room = record { counted = r.each_counted; there = r.there; room = omega (arith, r.enough, room) }
+  module _ (i : ℕ) where
+    parts-row : tuple_of outer i ≡ parts_of_row c (parts x) x.own i
+    unfolding parts_of_row owns
+    parts-row = steps-row (size c x.own) (owns c x) i
 
-  module _ {s s' : List ℕ} {n : ℕ} (room : length s ≡ 6) (w : Stored s 0 (tuples_in inner ks rows) s')
-      (en : n ≡ length (tuples_in inner ks rows)) where
-    flat-front : take n s' ≡ tuples_in inner ks rows
-    flat-front = rw en (stored-front w (omega (arith, r.enough, room)))
+    parts-long : length (parts_of_row c (parts x) x.own i) ≡ length (parts x)
+    parts-long = ap length (sym parts-row) ∙ length-tuple_of outer i ∙ outer-long
 
-    pub flat-within : n ≤ length s'
-    flat-within = omega (arith, en, r.enough, room, stored-long w)
+    abbrev flat : List ℕ
+    flat = flatten (zip_with (part_tuple c) (parts x) (parts_of_row c (parts x) x.own i))
 
-    pub flat-small : Under 16384 (take n s')
-    flat-small = rw flat-front (tuples-under inner ks rows (record { at = r.indices }))
+    pub flat-is : tuples_in inner (counts x) (tuple_of outer i) ≡ flat
+    unfolding part_tuple
+    flat-is =
+        ap₂ {C = List ℕ} (λ s k. tuples_in s k (tuple_of outer i)) inner-is (sym counts-are)
+        ∙ ap (tuples_in (flat_map (λ (b : Part). steps (want b) (role_sizes b)) (parts x)) (map (λ (b : Part). length (role_sizes b)) (parts x))) parts-row
+        ∙ each_row want role_sizes (parts x) (parts_of_row c (parts x) x.own i) parts-long
 
-    pub row_of : (columns : List ℕ) (count : ℕ) {o o' : List ℕ} {at to : ℕ} → Wrote o at (each (cell_of (take n s')) 4 count columns) o' to
-        → Wrote o at (each (cell_of (tuples_in inner ks rows)) 4 count columns) o' to
-    row_of columns count v = wrote_as v (ap (λ (l : List ℕ). each (cell_of l) 4 count columns) flat-front)
+  tuple_long : (b : Part) (j : ℕ) → length (part_tuple c b j) ≡ length b.roles
+  unfolding part_tuple
+  tuple_long b j =
+      ap length (sym (steps-row (want b) (role_sizes b) j)) ∙ length-tuple_of (steps (want b) (role_sizes b)) j
+      ∙ length-steps (want b) (role_sizes b) ∙ length-map b.roles (size c)
 
-module _ {count : ℕ} {columns outer ks inner : List ℕ} (p : Planned count columns outer ks inner) where
-  pub planned-columns : Under 999999 columns
-  planned-columns = p.small
+  flat-length : (bs : List Part) (js : List ℕ) → length js ≡ length bs
+      → length (flatten (zip_with (part_tuple c) bs js)) ≡ length (flat_map (λ (b : Part). b.roles) bs)
+  unfolding flatten zip_with flat_map
+  flat-length [] [] e = refl
+  flat-length [] (j ∷ js) e = absurd (omega arith)
+  flat-length (b ∷ bs) [] e = absurd (omega arith)
+  flat-length (b ∷ bs) (j ∷ js) e =
+      length-append (part_tuple c b j) (flatten (zip_with (part_tuple c) bs js))
+      ∙ ap₂ {C = ℕ} (λ m n. m + n) (tuple_long b j) (flat-length bs js (omega arith))
+      ∙ sym (length-append b.roles (flat_map (λ (b : Part). b.roles) bs))
 
-  pub planned-wide : 4 * count ≤ length columns
-  planned-wide = p.wide
+  pub flat-long : (i : ℕ) → length (tuples_in inner (counts x) (tuple_of outer i)) ≡ length (order x)
+  unfolding order
+  flat-long i = ap length (flat-is i) ∙ flat-length (parts x) (parts_of_row c (parts x) x.own i) (parts-long i)
 
-  pub planned_spanned : {s : List ℕ} → length s ≡ 12 → Spanned outer 0 (length ks) s 0
-  planned_spanned room = record {
-    there = omega (arith, p.stepped);
-    room = omega (arith, p.few, room);
-  }
+  steps-length : (bs : List Part)
+      → length (flat_map (λ (b : Part). steps (want b) (role_sizes b)) bs) ≡ length (flat_map (λ (b : Part). b.roles) bs)
+  unfolding flat_map
+  steps-length [] = refl
+  steps-length (b ∷ bs) =
+      omega (
+        arith,
+        length-append (steps (want b) (role_sizes b)) (flat_map (λ (b : Part). steps (want b) (role_sizes b)) bs),
+        length-steps (want b) (role_sizes b),
+        length-map b.roles (size c),
+        length-append b.roles (flat_map (λ (b : Part). b.roles) bs),
+        steps-length bs,
+      )
 
-  module _ {s s' : List ℕ} (i : ℕ) (room : length s ≡ 12) (w : Stored s 0 (tuple_in outer (length ks) i) s') where
-    rows-front : take (length ks) s' ≡ tuple_in outer (length ks) i
-    rows-front = ap (λ (m : ℕ). take m s') (sym (length-tuple_in outer (length ks) i)) ∙ stored-front w
-        (omega (arith, length-tuple_in outer (length ks) i, p.few, room))
+  pub inner-long : length inner ≡ length (order x)
+  unfolding order
+  inner-long = ap length inner-is ∙ steps-length (parts x)
 
-    pub rows-within : length ks ≤ length s'
-    rows-within = omega (arith, p.few, room, stored-long w)
+-- ---- the cells of a row
 
-    pub rows-room : i ≤ 4096 → Room inner ks (take (length ks) s')
-    rows-room h = rw rows-front (record {
-      each_counted = omega (arith, length-tuple_in outer (length ks) i);
-      there = p.there i;
-      counted = p.counted;
-      indices = λ k. omega (arith, (tuple_under outer (length ks) i).at k);
-      enough = p.enough i;
-    })
+module _ (d : Diagram) (c : List ℕ) (x : Placed) {types : List ℕ} (are : types ≡ map (λ (r : Role). r.type) (all_roles d)) where
+  starts : (number p : ℕ) → taken_before c p (played number (first_role d) types) ≡ taken_before c p (roles_of_type d number)
+  unfolding roles_of_type
+  starts number p = ap (taken_before c p) (ap (played number (first_role d)) are ∙ played-select number (first_role d) (all_roles d))
 
-    pub row_is : {o o' : List ℕ} {at to : ℕ}
-        → Wrote o at (each (cell_of (tuples_in inner ks (take (length ks) s'))) 4 count columns) o' to
-        → Wrote o at (row_by columns count outer ks inner i) o' to
-    unfolding row_by
-    row_is v = wrote_as v (ap (λ (l : List ℕ). each (cell_of (tuples_in inner ks l)) 4 count columns) rows-front)
+  module _ (i : ℕ) where
+    abbrev by_parts : List ℕ
+    by_parts = tuples_in (inner c x) (counts x) (tuple_of (outer c x) i)
 
--- ---- all rows
+    place : (p : ℕ) → get_or by_parts (position p (order x)) 0 ≡ index_in_row c x i p
+    unfolding index_in_row order
+    place p = sym (lookup-position p (order x) by_parts (flat-long c x i)) ∙ ap (lookup p (order x)) (flat-is c x i)
 
-module _ (columns : List ℕ) (count : ℕ) (outer ks inner : List ℕ) where
-  abbrev pub rows_from : ℕ → ℕ → List ℕ
-  rows_from i n = flat_map (row_by columns count outer ks inner) (up_from i n)
+    cells_are : (p : ℕ) (rs : List Role)
+        → map (cell_of by_parts) (columns_from d c types (order x) p rs) ≡ map_from (λ (p : ℕ) (r : Role). member_of d c p r (index_in_row c x i p)) p rs
+    unfolding map_from member_of
+    cells_are p [] = refl
+    cells_are p (r ∷ rs) =
+        ap₂ {C = List ℕ} (λ y ys. y ∷ ys)
+        (ap₂ {C = ℕ} (λ k j. first_value d.types (index r.type) + (k + j) % size c (index r.type)) (starts r.type p) (place p))
+        (cells_are (suc p) rs)
 
-  pub rows_more : (i n : ℕ) → 0 < n → Splits (rows_from i n) (row_by columns count outer ks inner i) (rows_from (i + 1) (n - 1))
-  unfolding up_from flat_map
-  rows_more i zero h = absurd (omega arith)
-  rows_more i (suc n) h = let e : suc n - 1 ≡ n = omega arith in record { is = rw (e, add-one) }
-
-  pub rows_none : (i n : ℕ) → n ≤ 0 → rows_from i n ≡ []
-  unfolding up_from flat_map
-  rows_none i zero h = refl
-  rows_none i (suc n) h = absurd (omega arith)
+    pub row-by : map (cell_of by_parts) (columns_from d c types (order x) x.roles x.predicate.roles) ≡ row d c x i
+    unfolding row
+    row-by = cells_are x.roles x.predicate.roles

@@ -1,187 +1,115 @@
--- The row that is made from what is prepared is the row of the definition.
-use Prim.Native.Nat.{ℕ, suc, ◌+◌, ◌*◌, ◌%◌}
+-- A row from what is prepared: its indices are small, and there is room for them.
+use Prim.Native.Nat.{ℕ, suc, ◌+◌, ◌*◌, ◌≤◌}
 use native.Mathlib.Omega.{arith}
-use mathlib.Core.Path.{◌≡◌, refl, sym, ap, ap₂, ◌∙◌}
-use mathlib.Core.Bool.{Bool, true, false}
-use mathlib.Core.List.{List, [], ◌∷◌, ◌++◌, map, map-append, flat_map, flatten, zip_with, append-nil}
-use lib.Dec.{eqb}
-use lib.ListN.{length, get_or, length-append, length-map}
-use Rattle.counting.specs.Lists.{map_from}
-use Rattle.counting.proofs.Laws.Maps.{map_congr}
-use Rattle.orm.specs.Diagram.{Role, Diagram, index, all_roles}
-use Rattle.orm.specs.Sets.{Placed, Part, parts, select, roles_of_type, first_role}
-use Rattle.orm.specs.Supertypes.{first_value}
-use Rattle.orm.specs.Populate.{size, taken_before, part_tuple, parts_of_row, lookup, index_in_row, member_of, row}
-use Rattle.table.specs.Positions.{each}
-use Rattle.tuples.specs.Steps.{steps, tuple_in}
-use Rattle.tuples.specs.StepsLaws.{length-tuple_in, steps-row}
-use Rattle.tuples.specs.Nested.{steps_of_each, tuples_in, each-steps, each_row, length-steps}
-use Rattle.population.specs.Plan.{order, counts, owns, sizes_of, position, played, cell_of, row_by}
-use Rattle.population.proofs.ColumnLaws.{columns_from}
+use mathlib.Core.Path.{◌≡◌, refl, sym, ap, ◌∙◌}
+use mathlib.Core.List.{List, [], ◌∷◌, ◌++◌, map, flat_map, append-nil}
+use lib.ListN.{length, drop, take}
+use Rattle.std.specs.Prelude.{sum}
+use Rattle.std.proofs.Common.{length-take-le}
+use Rattle.std.proofs.lemmas.List.Sums.{sum_by-take-le}
+use Rattle.counting.specs.Lists.{up_from}
+use Rattle.counting.proofs.Laws.Maps.{flat_map_append}
+use Rattle.table.specs.Valid.{Under}
+use Rattle.table.specs.Laws.Valid.{under_nil, under-cons, under_append}
+use Rattle.selection.specs.Laws.Upto.{up_from_more}
+use Rattle.tuples.specs.Steps.{tuple_of, first_row, entries}
+use Rattle.tuples.specs.StepsLaws.{length-tuple_of, entry-small, first_row-small}
+use Rattle.tuples.specs.Stored.{Stored}
+use Rattle.tuples.specs.StoredLaws.{stored-front, stored-long}
+use Rattle.tuples.specs.Nested.{tuples_in, Indices}
+use Rattle.tuples.specs.NestedLaws.{tuples_all}
+use Rattle.tuples.specs.declared.Step.{Step}
+use Rattle.population.specs.Plan.{cell_of, row_by, Planned}
+use Rattle.population.specs.declared.rows.Plan.{Plan}
 
--- ---- looking up a role
+-- ---- indices are small: a row's is at most 4096, and a pairing at most doubles it, for the parts of the row and for the roles of a part
 
-pub lookup-position : (p : ℕ) (ss js : List ℕ) → length js ≡ length ss → lookup p ss js ≡ get_or js (position p ss) 0
-unfolding lookup position
-lookup-position p [] [] e = refl
-lookup-position p [] (j ∷ js) e = absurd (omega arith)
-lookup-position p (s ∷ ss) [] e = absurd (omega arith)
-lookup-position p (s ∷ ss) (j ∷ js) e = go (eqb s p) (lookup-position p ss js (omega arith))
-  where
-    go : (b : Bool) → lookup p ss js ≡ get_or js (position p ss) 0
-        → elim b as (λ _. ℕ) [ true ↦ j | false ↦ lookup p ss js ] ≡ get_or (j ∷ js) (elim b as (λ _. ℕ) [ true ↦ 0 | false ↦ suc (position p ss) ]) 0
-    go true h = refl
-    go false h = h
+under_weaken : {b b' : ℕ} {xs : List ℕ} → b ≤ b' → Under b xs → Under b' xs
+under_weaken h u = record { at = λ k. omega (arith, u.at k) }
 
--- ---- the roles of a type
+entries-under : (s : List Step) (i : ℕ) → Under (2 * i) (entries s i)
+unfolding entries
+entries-under [] i = under_nil (2 * i)
+entries-under (a ∷ s) i = under-cons (omega (arith, entry-small a (first_row s i), first_row-small s i)) (entries-under s i)
 
-pub played-select : (number i : ℕ) (rs : List Role)
-    → played number i (map (λ (r : Role). r.type) rs) ≡ select (λ (r : Role). eqb r.type number) i rs
-unfolding played select
-played-select number i [] = refl
-played-select number i (r ∷ rs) = go (eqb r.type number) (played-select number (suc i) rs)
-  where
-    go : (b : Bool) → played number (suc i) (map (λ (r : Role). r.type) rs) ≡ select (λ (r : Role). eqb r.type number) (suc i) rs
-        → ◌≡◌ {A = List ℕ} (elim b as
-        (λ _. List ℕ) [
-          | true ↦ i ∷ played number (suc i) (map (λ (r : Role). r.type) rs)
-          | false ↦ played number (suc i)
-              (map (λ (r : Role). r.type) rs)
-        ])
-        (elim b as (λ _. List ℕ) [
-          | true ↦ i ∷ select (λ (r : Role). eqb r.type number) (suc i) rs
-          | false ↦ select
-              (λ (r : Role). eqb r.type number) (suc i) rs
-        ])
-    go true h = ap {B = List ℕ} (λ l. i ∷ l) h
-    go false h = h
+tuple_under : (s : List Step) (i : ℕ) → Under (2 * i) (tuple_of s i)
+unfolding tuple_of
+tuple_under [] i = under_nil (2 * i)
+tuple_under (a ∷ s) i = under-cons (omega (arith, first_row-small s i)) (entries-under s i)
 
--- ---- a row by parts
+tuples-under : (s : List Step) (ks is : List ℕ) → Under 8192 is → Under 16384 (tuples_in s ks is)
+unfolding tuples_in
+tuples-under s ks [] u = under_nil 16384
+tuples-under s [] (i ∷ is) u = under_nil 16384
+tuples-under s (k ∷ ks) (i ∷ is) u =
+    under_append (tuple_of (take k s) i) (tuples_in (drop k s) ks is)
+    (under_weaken (omega (arith, u.at 0)) (tuple_under (take k s) i))
+    (tuples-under (drop k s) ks is (record { at = λ k. u.at (suc k) }))
 
-module _ (c : List ℕ) (x : Placed) where
-  abbrev want : Part → ℕ
-  want b = size c b.own
+sum-within : (ks : List ℕ) (n : ℕ) → sum (take n ks) ≤ sum ks
+sum-within ks n = sum_by-take-le (λ x. x) ks n
 
-  abbrev role_sizes : Part → List ℕ
-  role_sizes b = map (size c) b.roles
+-- ---- the row, through scratch
 
-  counts-are : map (λ (b : Part). length (role_sizes b)) (parts x) ≡ counts x
-  unfolding counts
-  counts-are = map_congr (λ (b : Part). length (role_sizes b)) (λ (b : Part). length b.roles) (parts x) (λ b m. length-map b.roles (size c))
+module _ {p : Plan} (planned : Planned p) {i : ℕ} (small : i ≤ 4096) {is is' : List ℕ} (room : length is ≡ 12)
+    (w : Stored is 0 (tuple_of p.outer.now i) is') where
+  abbrev pub rows : List ℕ
+  rows = take (length p.counts.now) is'
 
-  sizes-are : (bs : List Part) → flat_map role_sizes bs ≡ map (size c) (flat_map (λ (b : Part). b.roles) bs)
+  long : length (tuple_of p.outer.now i) ≡ length p.counts.now
+  long = length-tuple_of p.outer.now i ∙ planned.stepped
+
+  rows-are : rows ≡ tuple_of p.outer.now i
+  rows-are = ap (λ m. take m is') (sym long) ∙ stored-front w (omega (arith, long, planned.few, room))
+
+  pub rows-within : length p.counts.now ≤ length is'
+  rows-within = omega (arith, planned.few, room, stored-long w)
+
+  rows-under : Under 8192 rows
+  rows-under = rw rows-are (under_weaken (omega (arith, small)) (tuple_under p.outer.now i))
+
+  pub rows-indices : Indices rows
+  rows-indices = record { at = λ k. omega (arith, rows-under.at k) }
+
+  pub rows-counted : length rows ≤ length p.counts.now
+  rows-counted = omega (arith, ap length rows-are, long)
+
+  module _ {fs fs' : List ℕ} {n : ℕ} (space : length fs ≡ 6) (v : Stored fs 0 (tuples_in p.inner.now p.counts.now rows) fs')
+      (en : n ≡ length (tuples_in p.inner.now p.counts.now rows)) where
+    few : n ≤ 6
+    few =
+        let all : sum (take (length rows) p.counts.now) ≡ length (tuples_in p.inner.now p.counts.now rows) =
+        tuples_all p.inner.now p.counts.now rows refl (omega arith) (omega arith) rows-counted planned.there in
+        omega (arith, en, all, sum-within p.counts.now (length rows), planned.enough)
+
+    pub flat-within : n ≤ length fs'
+    flat-within = omega (arith, few, space, stored-long v)
+
+    pub flat-count : n ≡ length (take n fs')
+    flat-count = sym (length-take-le n fs' flat-within)
+
+    flat-are : take n fs' ≡ tuples_in p.inner.now p.counts.now rows
+    flat-are = rw en (stored-front v (omega (arith, few, en, space)))
+
+    pub flat-under : Under 16384 (take n fs')
+    flat-under = rw flat-are (tuples-under p.inner.now p.counts.now rows rows-under)
+
+    pub row-is : row_by p i ≡ map (cell_of (take n fs')) p.columns.now
+    row-is = sym (ap (λ flat. map (cell_of flat) p.columns.now) (flat-are ∙ ap (tuples_in p.inner.now p.counts.now) rows-are))
+
+-- ---- all rows
+
+module _ (p : Plan) where
+  abbrev pub rows_to : ℕ → List ℕ
+  rows_to n = flat_map (row_by p) (up_from 0 n)
+
+  pub rows_none : rows_to 0 ≡ []
+  unfolding up_from flat_map
+  rows_none = refl
+
+  pub rows_more : (n : ℕ) → rows_to (n + 1) ≡ rows_to n ++ row_by p n
   unfolding flat_map
-  sizes-are [] = refl
-  sizes-are (b ∷ bs) = ap {B = List ℕ} (λ l. role_sizes b ++ l) (sizes-are bs) ∙ sym
-      (map-append (size c) b.roles (flat_map (λ (b : Part). b.roles) bs))
-
-  abbrev pub inner : List ℕ
-  inner = steps_of_each (owns c x) (counts x) (sizes_of c (order x))
-
-  inner-is : inner ≡ flat_map (λ (b : Part). steps (want b) (role_sizes b)) (parts x)
-  unfolding owns order
-  inner-is =
-      ap₂ {C = List ℕ} (λ k s. steps_of_each (map want (parts x)) k s) (sym counts-are) (sym (sizes-are (parts x)))
-      ∙ each-steps want role_sizes (parts x)
-
-  abbrev pub outer : List ℕ
-  outer = steps (size c x.own) (owns c x)
-
-  many : length (counts x) ≡ length (owns c x)
-  unfolding counts owns
-  many = length-map (parts x) (λ (b : Part). length b.roles) ∙ sym (length-map (parts x) want)
-
-  many-parts : length (counts x) ≡ length (parts x)
-  unfolding counts
-  many-parts = length-map (parts x) (λ (b : Part). length b.roles)
-
-  module _ (rest rest' : List ℕ) (i : ℕ) where
-    parts-row : tuple_in (outer ++ rest) (length (counts x)) i ≡ parts_of_row c (parts x) x.own i
-    unfolding parts_of_row owns
-    parts-row = ap (λ (n : ℕ). tuple_in (outer ++ rest) n i) many ∙ steps-row (size c x.own) (owns c x) rest i
-
-    parts-long : length (parts_of_row c (parts x) x.own i) ≡ length (parts x)
-    parts-long = ap length (sym parts-row) ∙ length-tuple_in (outer ++ rest) (length (counts x)) i ∙ many-parts
-
-    abbrev flat : List ℕ
-    flat = flatten (zip_with (part_tuple c) (parts x) (parts_of_row c (parts x) x.own i))
-
-    pub flat-is : tuples_in (inner ++ rest') (counts x) (tuple_in (outer ++ rest) (length (counts x)) i) ≡ flat
-    unfolding part_tuple
-    flat-is =
-        ap₂ {C = List ℕ} (λ s k. tuples_in (s ++ rest') k (tuple_in (outer ++ rest) (length (counts x)) i)) inner-is
-        (sym counts-are ∙ sym (append-nil _))
-        ∙ ap (tuples_in (flat_map (λ (b : Part). steps (want b) (role_sizes b)) (parts x) ++ rest')
-        (map (λ (b : Part). length (role_sizes b)) (parts x) ++ [])) parts-row
-        ∙ each_row want role_sizes (parts x) (parts_of_row c (parts x) x.own i) rest' [] parts-long
-
-  tuple_long : (b : Part) (j : ℕ) → length (part_tuple c b j) ≡ length b.roles
-  unfolding part_tuple
-  tuple_long b j = ap length (sym (steps-row (want b) (role_sizes b) [] j)) ∙ length-tuple_in (steps (want b) (role_sizes b) ++ [])
-      (length (role_sizes b)) j ∙ length-map b.roles (size c)
-
-  flat-length : (bs : List Part) (js : List ℕ) → length js ≡ length bs
-      → length (flatten (zip_with (part_tuple c) bs js)) ≡ length (flat_map (λ (b : Part). b.roles) bs)
-  unfolding flatten zip_with flat_map
-  flat-length [] [] e = refl
-  flat-length [] (j ∷ js) e = absurd (omega arith)
-  flat-length (b ∷ bs) [] e = absurd (omega arith)
-  flat-length (b ∷ bs) (j ∷ js) e =
-      length-append (part_tuple c b j) (flatten (zip_with (part_tuple c) bs js))
-      ∙ ap₂ {C = ℕ} (λ m n. m + n) (tuple_long b j) (flat-length bs js (omega arith))
-      ∙ sym (length-append b.roles (flat_map (λ (b : Part). b.roles) bs))
-
-  pub flat-long : (rest rest' : List ℕ) (i : ℕ)
-      → length (tuples_in (inner ++ rest') (counts x) (tuple_in (outer ++ rest) (length (counts x)) i)) ≡ length (order x)
-  unfolding order
-  flat-long rest rest' i = ap length (flat-is rest rest' i) ∙ flat-length (parts x) (parts_of_row c (parts x) x.own i) (parts-long rest rest' i)
-
-  steps-length : (bs : List Part)
-      → length (flat_map (λ (b : Part). steps (want b) (role_sizes b)) bs) ≡ 3 * length (flat_map (λ (b : Part). b.roles) bs)
-  unfolding flat_map
-  steps-length [] = refl
-  steps-length (b ∷ bs) =
-      omega (
-        arith,
-        length-append (steps (want b) (role_sizes b)) (flat_map (λ (b : Part). steps (want b) (role_sizes b)) bs),
-        length-steps (want b) (role_sizes b),
-        length-map b.roles (size c),
-        length-append b.roles (flat_map (λ (b : Part). b.roles) bs),
-        steps-length bs,
-      )
-
-  pub inner-long : length inner ≡ 3 * length (order x)
-  unfolding order
-  inner-long = ap length inner-is ∙ steps-length (parts x)
-
--- ---- the cells of a row
-
-module _ (d : Diagram) (c : List ℕ) (x : Placed) {types : List ℕ} (are : types ≡ map (λ (r : Role). r.type) (all_roles d)) where
-  starts : (number p : ℕ) → taken_before c p (played number (first_role d) types) ≡ taken_before c p (roles_of_type d number)
-  unfolding roles_of_type
-  starts number p = ap (taken_before c p) (ap (played number (first_role d)) are ∙ played-select number (first_role d) (all_roles d))
-
-  module _ (rest rest' : List ℕ) (i : ℕ) where
-    abbrev by_parts : List ℕ
-    by_parts = tuples_in (inner c x ++ rest') (counts x) (tuple_in (outer c x ++ rest) (length (counts x)) i)
-
-    place : (p : ℕ) → get_or by_parts (position p (order x)) 0 ≡ index_in_row c x i p
-    unfolding index_in_row order
-    place p =
-        sym (lookup-position p (order x) by_parts (flat-long c x rest rest' i))
-        ∙ ap (lookup p (order x)) (flat-is c x rest rest' i)
-
-    cells_are : (p : ℕ) (rs : List Role)
-        → each (cell_of by_parts) 4 (length rs) (columns_from d c types (order x) p rs) ≡ map_from
-        (λ (p : ℕ) (r : Role). member_of d c p r (index_in_row c x i p)) p rs
-    unfolding each map_from flatten cell_of member_of
-    cells_are p [] = refl
-    cells_are p (r ∷ rs) =
-        ap₂ {C = List ℕ} (λ y ys. y ∷ ys)
-        (ap₂ {C = ℕ} (λ k j. first_value d.types (index r.type) + (k + j) % size c (index r.type)) (starts r.type p) (place p))
-        (cells_are (suc p) rs)
-
-    pub row-by : row_by (columns_from d c types (order x) x.roles x.predicate.roles) (length x.predicate.roles) (outer c x ++ rest)
-        (counts x) (inner c x ++ rest') i ≡ row d c x i
-    unfolding row_by row
-    row-by = cells_are x.roles x.predicate.roles
+  rows_more n =
+      ap (flat_map (row_by p)) (up_from_more 0 n) ∙ flat_map_append (row_by p) (up_from 0 n) ((0 + n) ∷ [])
+      ∙ ap (λ l. rows_to n ++ l) (append-nil (row_by p (0 + n)))
+      ∙ (let e : 0 + n ≡ n = omega arith in ap (λ k. rows_to n ++ row_by p k) e)

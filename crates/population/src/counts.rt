@@ -20,13 +20,9 @@ pub fn count_type_cells(t: &[u32], c: &[u32]) -> usize
         (map (type_values (diagram_of t.now) c.now) (up_from 0 (length (diagram_of t.now).types)))) }
     ensures upper_bound { result ≤ 32 * 4097 }
 {
-    let mut left = table::type_count(t);
-    let mut a: u32 = 0;
     let mut n = 0;
-    while 0 < left {
-        n += 1 + table::index(size(c, a));
-        a += 1;
-        left -= 1;
+    for a in 0..table::type_count(t) {
+        n += 1 + size(c, a) as usize;
     }
     n
 }
@@ -39,7 +35,7 @@ fn count_row_cells(t: &[u32], c: &[u32], x: table::Cursor) -> usize
     ensures value { result ≡ get_or c.now x.own 0 * get_or (drop x.at t.now) 2 0 }
     ensures upper_bound { result ≤ 4096 * 160 }
 {
-    table::index(size(c, x.own)) * table::index(table::number(t, x.at, 2))
+    size(c, x.own) as usize * table::number(t, x.at, 2) as usize
 }
 
 pub fn count_pred_cells(t: &[u32], c: &[u32]) -> usize
@@ -51,13 +47,11 @@ pub fn count_pred_cells(t: &[u32], c: &[u32]) -> usize
         (map (rows (diagram_of t.now) c.now) (placed (diagram_of t.now)))) }
     ensures upper_bound { result ≤ 32 * (1 + 4096 * 160) }
 {
-    let mut left = table::pred_count(t);
     let mut x = table::first_cursor(t, table::role_count(t));
     let mut n = 0;
-    while 0 < left {
+    for _ in 0..table::pred_count(t) {
         n += 1 + count_row_cells(t, c, x);
         x = table::next_cursor(t, x);
-        left -= 1;
     }
     n
 }

@@ -1,5 +1,5 @@
-// The cells of the predicates: each function prepares one thing more for a predicate and hands all of
-// it on.
+// The cells of the predicates.
+ghost use Rattle.std.specs.Prelude.{◌≡◌, ◌≤◌, length};
 ghost use mathlib.Core.List.{map, flat_map};
 ghost use Rattle.orm.specs.Sets.{placed};
 ghost use Rattle.orm.specs.Population.{cells_of_pred};
@@ -7,201 +7,89 @@ ghost use Rattle.orm.specs.Populate.{rows};
 ghost use Rattle.buffer.specs.Written.{Wrote};
 ghost use Rattle.table.specs.Positions.{diagram_of};
 ghost use Rattle.selection.specs.Selected.{Types};
-ghost use Rattle.tuples.specs.Steps.{Small};
+ghost use Rattle.tuples.specs.Steps.{steps, Small};
+ghost use Rattle.tuples.specs.Nested.{steps_of_each};
 ghost use Rattle.table.specs.Valid.{Valid};
-ghost use Rattle.population.specs.Plan.{cells_at, AtPredicate, Ordered, Opened, Columned, Owned, PairingSteps, Prepared, Complete};
+ghost use Rattle.population.specs.Plan.{cells_at, sizes_of, AtPredicate, Wants, Front};
 
-use crate::parts::{part_sizes, plan_parts, plan_rows, push_counts, push_grouped};
-use crate::roles::push_columns;
-use crate::rows::push_rows;
+use crate::parts::{part_counts, part_sizes, role_sizes, roles};
+use crate::roles::columns;
+use crate::rows::{Column, Plan, push_rows};
 use crate::types::size;
+use buffer::Output;
+use tuples::Step;
 
-// A call's result is a name in what is to be proved; an array written in place is all its numbers.
-fn part_space() -> [u32; 12] {
-    [0u32; 12]
+// The steps by which parts of these sizes are paired to so many rows, at the front of scratch.
+fn row_steps(count: u32, sizes: &[u32], space: &mut [Step]) -> usize
+    requires bound { count ≤ 4096 }
+    requires small { Small sizes.now }
+    requires few { length sizes.now ≤ 12 }
+    requires room { length space.old ≡ 12 }
+    ensures { Front (steps count sizes.now) space.new result }
+{
+    let mut out = Output::new(space);
+    tuples::prepare(count, sizes, &mut out);
+    out.at
 }
 
-fn role_space() -> [u32; 6] {
-    [0u32; 6]
+// The steps by which the roles of each part are paired, of parts of the sizes `wants`; `roles` are the
+// roles of all parts, and `counts` has how many of them each part has.
+fn role_steps(c: &[u32], roles: &[u32], wants: &[u32], counts: &[u32], space: &mut [Step]) -> usize
+    requires small { Small c.now }
+    requires wants { Wants wants.now counts.now (sizes_of c.now roles.now) }
+    requires room { length space.old ≡ 6 }
+    ensures { Front (steps_of_each wants.now counts.now (sizes_of c.now roles.now)) space.new result }
+{
+    let mut sizes = [0u32; 6];
+    let n = role_sizes(c, roles, &mut sizes);
+    let mut out = Output::new(space);
+    tuples::prepare_each(wants, counts, &sizes[..n], &mut out);
+    out.at
 }
 
-fn column_space() -> [u32; 24] {
-    [0u32; 24]
-}
-
-fn row_step_space() -> [u32; 36] {
-    [0u32; 36]
-}
-
-fn role_step_space() -> [u32; 18] {
-    [0u32; 18]
-}
-
-// The cells of the predicate at x, from all that is prepared for it.
-fn push_planned(
-    t: &[u32],
-    c: &[u32],
-    x: table::Cursor,
-    columns: &[u32],
-    outer: &[u32],
-    ks: &[u32],
-    inner: &[u32],
-    out: &mut [u32],
-    at: usize,
-) -> usize
+// The cells of the predicate at x; `types` has the types of all roles.
+fn push_pred(t: &[u32], c: &[u32], types: &[u32], x: table::Cursor, out: &mut Output<'_, u32>)
     requires at_predicate { AtPredicate t.now c.now x }
-    requires complete { Complete t.now c.now x columns.now outer.now ks.now inner.now }
-    ensures { Wrote out.old at (cells_at t.now c.now x) out.new result }
+    requires types { Types t.now types.now }
+    ensures { Wrote out.old (cells_at t.now c.now x) out.new }
 {
     let size = size(c, x.own);
-    let count = table::number(t, x.at, 2);
-    let to = buffer::push(out, at, size);
-    push_rows(columns, count, outer, ks, inner, size, out, to)
+    let mut role_space = [0u32; 6];
+    let n = roles(t, x, &mut role_space);
+    let roles = &role_space[..n];
+    let mut count_space = [0u32; 12];
+    let n = part_counts(t, x, &mut count_space);
+    let counts = &count_space[..n];
+    let mut size_space = [0u32; 12];
+    let n = part_sizes(t, c, x, &mut size_space);
+    let sizes = &size_space[..n];
+    let mut column_space = [Column::default(); 6];
+    let width = columns(t, c, types, roles, x, &mut column_space);
+    let mut outer = [Step::default(); 12];
+    let parts = row_steps(size, sizes, &mut outer);
+    let mut inner = [Step::default(); 6];
+    let steps = role_steps(c, roles, sizes, counts, &mut inner);
+    let plan = Plan {
+        columns: &column_space[..width],
+        outer: &outer[..parts],
+        counts,
+        inner: &inner[..steps],
+    };
+    out.push(size);
+    push_rows(&plan, size, out);
 }
 
-// The cells of the predicate at x; the steps of the parts' roles are prepared here.
-fn push_prepared(
-    t: &[u32],
-    c: &[u32],
-    x: table::Cursor,
-    roles: &[u32],
-    columns: &[u32],
-    sizes: &[u32],
-    outer: &[u32],
-    ks: &[u32],
-    out: &mut [u32],
-    at: usize,
-) -> usize
-    requires at_predicate { AtPredicate t.now c.now x }
-    requires prepared { Prepared t.now c.now x roles.now columns.now sizes.now outer.now ks.now }
-    ensures { Wrote out.old at (cells_at t.now c.now x) out.new result }
-{
-    let mut inner = role_step_space();
-    plan_parts(c, roles, sizes, ks, &mut inner);
-    push_planned(t, c, x, columns, outer, ks, &inner, out, at)
-}
-
-// The cells of the predicate at x; how many roles each part has is found here.
-fn push_stepped(
-    t: &[u32],
-    c: &[u32],
-    x: table::Cursor,
-    roles: &[u32],
-    columns: &[u32],
-    sizes: &[u32],
-    outer: &[u32],
-    out: &mut [u32],
-    at: usize,
-) -> usize
-    requires at_predicate { AtPredicate t.now c.now x }
-    requires columned { Columned t.now c.now x roles.now columns.now }
-    requires pairing_steps { PairingSteps t.now c.now x sizes.now outer.now }
-    ensures { Wrote out.old at (cells_at t.now c.now x) out.new result }
-{
-    let mut ks = part_space();
-    let m = push_counts(t, x, sizes.len(), &mut ks);
-    push_prepared(t, c, x, roles, columns, sizes, outer, &ks[..m], out, at)
-}
-
-// The cells of the predicate at x; the steps by which the parts are paired to rows are prepared here.
-fn push_sized(
-    t: &[u32],
-    c: &[u32],
-    x: table::Cursor,
-    roles: &[u32],
-    columns: &[u32],
-    sizes: &[u32],
-    out: &mut [u32],
-    at: usize,
-) -> usize
-    requires at_predicate { AtPredicate t.now c.now x }
-    requires columned { Columned t.now c.now x roles.now columns.now }
-    requires owned { Owned t.now c.now x sizes.now }
-    ensures { Wrote out.old at (cells_at t.now c.now x) out.new result }
-{
-    let mut outer = row_step_space();
-    plan_rows(c, x.own, sizes, &mut outer);
-    push_stepped(t, c, x, roles, columns, sizes, &outer, out, at)
-}
-
-// The cells of the predicate at x; the sizes of the parts are found here. The ungrouped roles stand from
-// `a` on in `roles`.
-fn push_columned(
-    t: &[u32],
-    c: &[u32],
-    x: table::Cursor,
-    roles: &[u32],
-    a: usize,
-    columns: &[u32],
-    out: &mut [u32],
-    at: usize,
-) -> usize
-    requires at_predicate { AtPredicate t.now c.now x }
-    requires columned { Columned t.now c.now x roles.now columns.now }
-    requires opened { Opened t.now x a roles.now }
-    ensures { Wrote out.old at (cells_at t.now c.now x) out.new result }
-{
-    let mut sizes = part_space();
-    let n = part_sizes(t, c, x, &roles[a..], &mut sizes);
-    push_sized(t, c, x, roles, columns, &sizes[..n], out, at)
-}
-
-// The cells of the predicate at x; its columns are prepared here. `types` has the types of all roles.
-fn push_ordered(
-    t: &[u32],
-    c: &[u32],
-    types: &[u32],
-    x: table::Cursor,
-    roles: &[u32],
-    a: usize,
-    out: &mut [u32],
-    at: usize,
-) -> usize
-    requires at_predicate { AtPredicate t.now c.now x }
-    requires types { Types t.now types.now }
-    requires ordered { Ordered t.now x roles.now }
-    requires opened { Opened t.now x a roles.now }
-    ensures { Wrote out.old at (cells_at t.now c.now x) out.new result }
-{
-    let mut columns = column_space();
-    let n = push_columns(t, c, types, roles, x, &mut columns);
-    push_columned(t, c, x, roles, a, &columns[..n], out, at)
-}
-
-// The cells of the predicate at x; the roles of its parts are found here, part by part.
-fn push_pred(
-    t: &[u32],
-    c: &[u32],
-    types: &[u32],
-    x: table::Cursor,
-    out: &mut [u32],
-    at: usize,
-) -> usize
-    requires at_predicate { AtPredicate t.now c.now x }
-    requires types { Types t.now types.now }
-    ensures { Wrote out.old at (cells_at t.now c.now x) out.new result }
-{
-    let mut roles = role_space();
-    let a = push_grouped(t, x, &mut roles, 0);
-    let n = selection::push_in_group(t, x, 0, &mut roles, a);
-    push_ordered(t, c, types, x, &roles[..n], a, out, at)
-}
-
-pub fn push_preds(t: &[u32], c: &[u32], types: &[u32], out: &mut [u32], at: usize) -> usize
+pub fn push_preds(t: &[u32], c: &[u32], types: &[u32], out: &mut Output<'_, u32>)
     requires valid { Valid t.now }
     requires small { Small c.now }
     requires types { Types t.now types.now }
-    ensures { Wrote out.old at
+    ensures { Wrote out.old
         (flat_map cells_of_pred (map (rows (diagram_of t.now) c.now) (placed (diagram_of t.now))))
-        out.new result }
+        out.new }
 {
-    let mut left = table::pred_count(t);
     let mut x = table::first_cursor(t, selection::role_count(t, types));
-    let mut to = at;
-    while 0 < left {
-        to = push_pred(t, c, types, x, out, to);
+    for _ in 0..table::pred_count(t) {
+        push_pred(t, c, types, x, out);
         x = table::next_cursor(t, x);
-        left -= 1;
     }
-    to
 }

@@ -1,206 +1,84 @@
 // The rows of a predicate, each computed from its index, from what is prepared for the predicate.
-ghost use Rattle.std.specs.Prelude.{◌≡◌, ◌+◌, ◌*◌, ◌-◌, ◌≤◌, ◌<◌, length, get_or, drop};
-ghost use mathlib.Core.List.{[], ◌∷◌, flat_map};
+ghost use Rattle.std.specs.Prelude.{◌≡◌, ◌≤◌, length, map, All};
+ghost use mathlib.Core.List.{flat_map};
 ghost use Rattle.counting.specs.Lists.{up_from};
 ghost use Rattle.buffer.specs.Written.{Wrote};
-ghost use Rattle.table.specs.Positions.{each};
 ghost use Rattle.table.specs.Valid.{Under};
-ghost use Rattle.tuples.specs.Nested.{tuples_in};
-ghost use Rattle.population.specs.Plan.{cell_of, row_by};
-ghost use Rattle.population.specs.Plan.{Room, Planned};
+ghost use Rattle.population.specs.Plan.{cell_of, row_by, Narrow, Planned};
 
-fn column_item(columns: &[u32], p: usize, i: usize) -> u32
-    requires under { Under 999999 columns.now }
-    requires i_in_bounds { p + i < length columns.now }
-    ensures value { result ≡ get_or (drop p columns.now) i 0 }
-    ensures upper_bound { result ≤ 999999 }
-{
-    columns[p + i]
+use buffer::Output;
+use tuples::Step;
+
+// Of a role: the first value and the size of its type, how many of the type's members the roles before
+// it take, and where its index stands in a row that is given by parts.
+#[derive(Clone, Copy, Debug, Default, PartialEq, Eq)]
+pub struct Column {
+    pub first: u32,
+    pub size: u32,
+    pub start: u32,
+    pub place: u32,
 }
 
-fn member(flat: &[u32], place: u32) -> u32
-    requires { Under 16384 flat.now }
-    ensures value { result ≡ get_or flat.now place 0 }
-    ensures upper_bound { result ≤ 16384 }
-{
-    buffer::item(flat, 0, table::index(place))
+// What is prepared for a predicate: its columns; the steps by which its parts are paired; of each part
+// how many roles it has, and the steps by which these are paired, part by part.
+#[derive(Clone, Copy, Debug)]
+pub struct Plan<'a> {
+    pub columns: &'a [Column],
+    pub outer: &'a [Step],
+    pub counts: &'a [u32],
+    pub inner: &'a [Step],
 }
 
-// The cell of the column at p in a row given by parts.
-fn cell(columns: &[u32], p: usize, flat: &[u32]) -> u32
-    requires under { Under 999999 columns.now }
-    requires p_in_bounds { p + 4 ≤ length columns.now }
-    requires under_2 { Under 16384 flat.now }
-    ensures { result ≡ cell_of flat.now (drop p columns.now) }
+// The cell of a column in a row given by parts.
+fn cell(column: &Column, flat: &[u32]) -> u32
+    requires narrow { Narrow column.now }
+    requires under { Under 16384 flat.now }
+    ensures { result ≡ cell_of flat.now column.now }
 {
-    let first = column_item(columns, p, 0);
-    let size = column_item(columns, p, 1);
-    let start = column_item(columns, p, 2);
-    let place = column_item(columns, p, 3);
-    first + tuples::remainder(start + member(flat, place), size)
+    let index = flat.get(column.place as usize).copied().unwrap_or(0);
+    column.first + tuples::remainder(column.start + index, column.size)
 }
 
-// A row of `count` columns, given by parts: as much of it as there is room for.
-fn push_cells(columns: &[u32], count: u32, flat: &[u32], out: &mut [u32], at: usize) -> usize
-    requires under { Under 999999 columns.now }
-    requires count_in_bounds { 4 * count ≤ length columns.now }
-    requires under_2 { Under 16384 flat.now }
-    ensures { Wrote out.old at (each (cell_of flat.now) 4 count columns.now) out.new result }
+// A row given by parts.
+fn push_cells(columns: &[Column], flat: &[u32], out: &mut Output<'_, u32>)
+    requires narrow { All Narrow columns.now }
+    requires under { Under 16384 flat.now }
+    ensures { Wrote out.old (map (cell_of flat.now) columns.now) out.new }
 {
-    let mut left = count;
-    let mut p = 0;
-    let mut to = at;
-    while 0 < left {
-        to = buffer::push(out, to, cell(columns, p, flat));
-        p += 4;
-        left -= 1;
+    for column in columns {
+        out.push(cell(column, flat));
     }
-    to
-}
-
-// Where there is room for it, a number needs no test.
-fn store(out: &mut [u32], at: usize, x: u32) -> usize
-    requires { at < length out.old }
-    ensures wrote { Wrote out.old at (x ∷ []) out.new result }
-    ensures value { result ≡ at + 1 }
-{
-    out[at] = x;
-    at + 1
-}
-
-// A row of `count` columns, given by parts, where there is room for all of it.
-fn store_cells(columns: &[u32], count: u32, flat: &[u32], out: &mut [u32], at: usize) -> usize
-    requires under { Under 999999 columns.now }
-    requires count_in_bounds { 4 * count ≤ length columns.now }
-    requires under_2 { Under 16384 flat.now }
-    requires count_in_bounds_2 { count ≤ length out.old - at }
-    ensures { Wrote out.old at (each (cell_of flat.now) 4 count columns.now) out.new result }
-{
-    let mut left = count;
-    let mut p = 0;
-    let mut to = at;
-    while 0 < left {
-        to = store(out, to, cell(columns, p, flat));
-        p += 4;
-        left -= 1;
-    }
-    to
-}
-
-// How much room there is from `at` on.
-fn room(length: usize, at: usize) -> usize
-    ensures { result ≡ length - at }
-{
-    if length <= at { 0 } else { length - at }
-}
-
-// The row, with one test of the room.
-fn push_row(columns: &[u32], count: u32, flat: &[u32], out: &mut [u32], at: usize) -> usize
-    requires under { Under 999999 columns.now }
-    requires count_in_bounds { 4 * count ≤ length columns.now }
-    requires under_2 { Under 16384 flat.now }
-    ensures { Wrote out.old at (each (cell_of flat.now) 4 count columns.now) out.new result }
-{
-    if room(out.len(), at) < table::index(count) {
-        return push_cells(columns, count, flat, out, at);
-    }
-    store_cells(columns, count, flat, out, at)
-}
-
-// The row whose parts have the rows with these numbers, `indices`; `flat` is scratch.
-fn row_of(
-    columns: &[u32],
-    count: u32,
-    ks: &[u32],
-    inner: &[u32],
-    indices: &[u32],
-    flat: &mut [u32],
-    out: &mut [u32],
-    at: usize,
-) -> usize
-    requires under { Under 999999 columns.now }
-    requires count_in_bounds { 4 * count ≤ length columns.now }
-    requires room { Room inner.now ks.now indices.now }
-    requires flat_len { length flat.old ≡ 6 }
-    ensures { Wrote out.old at
-        (each (cell_of (tuples_in inner.now ks.now indices.now)) 4 count columns.now)
-        out.new result }
-{
-    let n = tuples::tuple_each(inner, ks, indices, flat);
-    push_row(columns, count, &flat[..n], out, at)
 }
 
 // Row i; `indices` and `flat` are scratch.
-fn row(
-    columns: &[u32],
-    count: u32,
-    outer: &[u32],
-    ks: &[u32],
-    inner: &[u32],
+fn push_row(
+    plan: &Plan<'_>,
     i: u32,
     indices: &mut [u32],
     flat: &mut [u32],
-    out: &mut [u32],
-    at: usize,
-) -> usize
-    requires planned { Planned count columns.now outer.now ks.now inner.now }
+    out: &mut Output<'_, u32>,
+)
+    requires planned { Planned plan.now }
     requires i_bound { i ≤ 4096 }
     requires indices_len { length indices.old ≡ 12 }
     requires flat_len { length flat.old ≡ 6 }
-    ensures { Wrote out.old at
-        (row_by columns.now count outer.now ks.now inner.now i)
-        out.new result }
+    ensures { Wrote out.old (row_by plan.now i) out.new }
 {
-    let n = ks.len();
-    tuples::tuple(outer, 0, n, i, indices, 0);
-    row_of(columns, count, ks, inner, &indices[..n], flat, out, at)
-}
-
-fn part_space() -> [u32; 12] {
-    [0u32; 12]
-}
-
-fn role_space() -> [u32; 6] {
-    [0u32; 6]
+    tuples::tuple(plan.outer, i, indices, 0);
+    let rows = &indices[..plan.counts.len()];
+    let n = tuples::tuple_each(plan.inner, plan.counts, rows, flat);
+    push_cells(plan.columns, &flat[..n], out);
 }
 
 // The first `size` rows.
-pub fn push_rows(
-    columns: &[u32],
-    count: u32,
-    outer: &[u32],
-    ks: &[u32],
-    inner: &[u32],
-    size: u32,
-    out: &mut [u32],
-    at: usize,
-) -> usize
-    requires planned { Planned count columns.now outer.now ks.now inner.now }
+pub fn push_rows(plan: &Plan<'_>, size: u32, out: &mut Output<'_, u32>)
+    requires planned { Planned plan.now }
     requires size_bound { size ≤ 4096 }
-    ensures { Wrote out.old at
-        (flat_map (row_by columns.now count outer.now ks.now inner.now) (up_from 0 size))
-        out.new result }
+    ensures { Wrote out.old (flat_map (row_by plan.now) (up_from 0 size)) out.new }
 {
-    let mut indices = part_space();
-    let mut flat = role_space();
-    let mut left = size;
-    let mut i: u32 = 0;
-    let mut to = at;
-    while 0 < left {
-        to = row(
-            columns,
-            count,
-            outer,
-            ks,
-            inner,
-            i,
-            &mut indices,
-            &mut flat,
-            out,
-            to,
-        );
-        i += 1;
-        left -= 1;
+    let mut indices = [0u32; 12];
+    let mut flat = [0u32; 6];
+    for i in 0..size {
+        push_row(plan, i, &mut indices, &mut flat, out);
     }
-    to
 }

@@ -1,7 +1,8 @@
 -- One line of a text or of a table.
+use Rattle.std.specs.Prelude.{Option, Some, None, Result, Ok, Err}
 use Prim.Native.Nat.{ℕ, ◌+◌, ◌≤◌, ◌<◌}
 use native.Mathlib.Omega.{arith}
-use mathlib.Core.Path.{◌≡◌, refl, sym, ap, ap₂, ◌∙◌}
+use mathlib.Core.Path.{◌≡◌, sym, ap, ap₂, ◌∙◌}
 use mathlib.Core.Bool.{true}
 use mathlib.Core.List.{List, ◌++◌, append_assoc}
 use mir.Syntax.{w64}
@@ -14,37 +15,21 @@ use Rattle.orm.specs.Reader.{Cut, broken, cut}
 use Rattle.orm.specs.Text.{text_line, table_line}
 use Rattle.reading.specs.Cutting.{text_cuts, table-short, table-long}
 use Rattle.lexer.specs.declared.Kind.{Kind}
-use Rattle.lexer.specs.declared.Found.{Found}
-use Rattle.lexer.specs.declared.Found.TheVariants.{To, Nothing}
-use Rattle.lexer.specs.Cuts.{kind_of, cut_at, fields_of, line_numbers}
-use Rattle.lexer.specs.Tails.{line-to, line-not}
+use Rattle.lexer.specs.Cuts.{kind_of, rest_of, rest_in, fields_of, line_numbers}
+use Rattle.lexer.specs.Sound.{line-to, line-not}
 use Rattle.grammar.specs.declared.Fault.{Fault}
-use Rattle.grammar.specs.declared.Fault.TheVariants.{Malformed}
 use Rattle.grammar.specs.declared.Awaited.{Awaited}
-use Rattle.grammar.specs.declared.Step.{Step}
-use Rattle.grammar.specs.declared.Step.TheVariants.{Refused, Next}
 use Rattle.grammar.specs.Awaited.{kind_at, is_going, fields_at}
 use Rattle.grammar.specs.Step.{step_of, step_at}
 use Rattle.grammar.specs.Room.{Room}
 use Rattle.grammar.specs.Laws.Room.{fields-at, line-room}
-use Rattle.reader.specs.declared.Line.{Line}
-use Rattle.reader.specs.declared.Line.TheVariants.{Halted, Reached}
-use Rattle.reader.specs.declared.Lines.TheVariants.{Faulty}
-use Rattle.reader.specs.Reach.{halted, line_of, reach_of, line_step, Level, refusal_of}
+use Rattle.reader.specs.declared.Reached.{Reached}
+use Rattle.reader.specs.Reach.{halted, line_of, line_step}
 
--- ---- answers by cases
-
-pub reach-refused : {s : Step} (f : Fault) (at end : ℕ) → s ≡ Refused f → Halted f ≡ reach_of s at end
-reach-refused f at end e = rw e
-
-pub reach-next : {s : Step} (p : Awaited) (at end : ℕ) → s ≡ Next p → Reached p at end ≡ reach_of s at end
-reach-next p at end e = rw e
-
-pub halted-refusal : {l : Line} (f : Fault) (n : ℕ) → l ≡ Halted f → Faulty f n ≡ refusal_of l n
-halted-refusal f n e = rw e
-
-pub reached-refusal : {l : Line} {p : Awaited} {at end : ℕ} (n : ℕ) → l ≡ Reached p at end → Faulty Malformed n ≡ refusal_of l n
-reached-refusal n e = rw e
+-- Where the step leads, with the positions behind the line
+abbrev pub after : Result Awaited Fault → ℕ → ℕ → Result Reached Fault
+after (Ok p) at end = Ok (record { place = p; at = at; end = end })
+after (Err f) at end = Err f
 
 -- ---- room
 
@@ -64,12 +49,12 @@ fields-same p kind end q e = ap (λ (k : ℕ). end + k) (q ∙ e)
 
 -- ---- a line that is cut off leads where its step says
 
-led : (next : LineKind → List ℕ → Cut) (p : Awaited) (acc s v source table : List ℕ) (at end : ℕ) (st : Step)
+led : (next : LineKind → List ℕ → Cut) (p : Awaited) (acc s v source table : List ℕ) (at end : ℕ) (st : Result Awaited Fault)
     → next (kind_at p) s ≡ cut v (drop at source) → step_of st ≡ step_at p acc v → take end table ≡ acc ++ v → end ≡ length acc + length v
-    → line_of source table (reach_of st at end) ≡ line_step next p acc s
+    → line_of source table (after st at end) ≡ line_step next p acc s
 unfolding line_step
-led next p acc s v source table at end (Refused f) c e t l = rw (c, ← e, line_step)
-led next p acc s v source table at end (Next q) c e t l = rw (c, ← e, line_step, t, l)
+led next p acc s v source table at end (Err f) c e t l = rw (c, ← e, line_step)
+led next p acc s v source table at end (Ok q) c e t l = rw (c, ← e, line_step, t, l)
 
 -- the numbers of a line behind those so far
 module _ (p : Awaited) (table : List ℕ) (end : ℕ) (h : end + fields_at p ≤ length table) where
@@ -99,26 +84,26 @@ module _ (l : List ℕ) (end : ℕ) (ws : List ℕ) (h : end + length ws ≤ len
       ∙ ap (take n) (drop_at (take end l) (ws ++ drop (end + length ws) l) end front)
       ∙ take_at ws (drop (end + length ws) l) n e
 
-module _ (p : Awaited) (kind : Kind) (ek : kind_of kind ≡ kind_at p) (text : List ℕ) (at : ℕ) (f : Found)
-    (e : f ≡ cut_at text at (text_line (kind_of kind) (drop at text))) where
-  pub text-broken : (acc : List ℕ) → f ≡ Nothing → halted 1 ≡ line_step text_line p acc (drop at text)
+module _ (p : Awaited) (kind : Kind) (ek : kind_of kind ≡ kind_at p) (text : List ℕ) (at : ℕ) where
+  pub text-broken : {f : Option ℕ} → rest_of text f ≡ rest_in (text_line (kind_of kind) (drop at text)) → (acc : List ℕ) → f ≡ None → halted 1 ≡ line_step text_line p acc (drop at text)
   unfolding line_step
-  text-broken acc q =
-      let c : text_line (kind_at p) (drop at text) ≡ broken = rw ek at (line-not text at (kind_of kind) (sym e ∙ q)) in
+  text-broken e acc q =
+      let c : text_line (kind_at p) (drop at text) ≡ broken = rw ek at (line-not text (kind_of kind) (drop at text) e q) in
       rw (c, line_step)
 
   pub text-stored : (table : List ℕ) (end : ℕ) {table' : List ℕ} → table' ≡ sets table end (line_numbers (kind_of kind) (drop at text))
       → table' ≡ sets table end (line_numbers (kind_at p) (drop at text))
   text-stored table end w = w ∙ rw ek
 
-  pub text-reached : (table table' : List ℕ) (end : ℕ) {n next : ℕ} (st : Step) {r : Line}
+  pub text-reached : {f : Option ℕ} → rest_of text f ≡ rest_in (text_line (kind_of kind) (drop at text))
+      → (table table' : List ℕ) (end : ℕ) {n next : ℕ} (st : Result Awaited Fault)
       → fields_of kind ≡ fields_at p → n ≡ fields_of kind → end + n ≤ length table'
-      → table' ≡ sets table end (line_numbers (kind_of kind) (drop at text)) → f ≡ To next
-      → step_of st ≡ step_at p (take end table') (take (fields_at p) (drop end table')) → r ≡ reach_of st next (end + n)
-      → line_of text table' r ≡ line_step text_line p (take end table) (drop at text)
-  text-reached table table' end {n} {next} st ef en l t q s er =
+      → table' ≡ sets table end (line_numbers (kind_of kind) (drop at text)) → f ≡ Some next
+      → step_of st ≡ step_at p (take end table') (take (fields_at p) (drop end table'))
+      → line_of text table' (after st next (end + n)) ≡ line_step text_line p (take end table) (drop at text)
+  text-reached e table table' end {n} {next} st ef en l t q s =
       let v = line_numbers (kind_at p) (drop at text) in
-      let c : text_line (kind_at p) (drop at text) ≡ cut v (drop next text) = rw ek at (line-to text at (kind_of kind) (sym e ∙ q)) in
+      let c : text_line (kind_at p) (drop at text) ≡ cut v (drop next text) = rw ek at (line-to text (kind_of kind) (drop at text) e q) in
       let many : length v ≡ fields_at p = (text_cuts.only (kind_at p) (drop at text) v (drop next text) c).0 ∙ fields-at p in
       let t' : table' ≡ sets table end v = text-stored table end t in
       let long : length table' ≡ length table = ap length t' ∙ length-sets table end v in
@@ -127,7 +112,7 @@ module _ (p : Awaited) (kind : Kind) (ek : kind_of kind ≡ kind_at p) (text : L
       let before : take end table' ≡ take end table = ap (take end) t' ∙ sets-front table end v room in
       let part : take (fields_at p) (drop end table') ≡ v =
       ap (λ (x : List ℕ). take (fields_at p) (drop end x)) t' ∙ sets-part table end v room many in
-      rw (er, en, ef, ← before)
+      rw (en, ef, ← before)
       (led text_line p (take end table') (drop at text) (take (fields_at p) (drop end table')) text table' next (end + fields_at p) st
       (c ∙ ap (λ (x : List ℕ). cut x (drop next text)) (sym part)) s
       (so_far p table' end h) (so-many p table' end h))
@@ -142,25 +127,15 @@ module _ (p : Awaited) (kind : Kind) (table : List ℕ) (at : ℕ) {n : ℕ} (ef
       table-short (kind_at p) (drop at table) (omega (arith, length-drop at table, fields-at p)) in
       rw (c, line_step)
 
-  pub table-reached : (st : Step) {r : Line} → at + n ≤ length table
-      → step_of st ≡ step_at p (take at table) (take (fields_at p) (drop at table)) → r ≡ reach_of st (at + n) (at + n)
-      → line_of table table r ≡ line_step table_line p (take at table) (drop at table)
-  table-reached st l s er =
+  pub table-reached : (st : Result Awaited Fault) → at + n ≤ length table
+      → step_of st ≡ step_at p (take at table) (take (fields_at p) (drop at table))
+      → line_of table table (after st (at + n) (at + n)) ≡ line_step table_line p (take at table) (drop at table)
+  table-reached st l s =
       let h : at + fields_at p ≤ length table = omega arith in
       let v = take (fields_at p) (drop at table) in
       let c : table_line (kind_at p) (drop at table) ≡ cut v (drop (at + fields_at p) table) =
       rw (fields-at p) at (table-long (kind_at p) (drop at table) (omega (arith, length-drop at table, fields-at p)))
       ∙ ap (cut v) (drop-drop (fields_at p) at table) in
-      rw (er, en, ef)
+      rw (en, ef)
       (led table_line p (take at table) (drop at table) v table table (at + fields_at p) (at + fields_at p) st c s
       (so_far p table at h) (so-many p table at h))
-
-  pub halted-level : (f : Fault) → Level (length table) (Halted f)
-  halted-level f = record { at = tt }
-
-  pub reached-level : (st : Step) {r : Line} → at + n ≤ length table → r ≡ reach_of st (at + n) (at + n) → Level (length table) r
-  reached-level st h er = rw er (go st)
-    where
-      go : (st : Step) → Level (length table) (reach_of st (at + n) (at + n))
-      go (Refused f) = record { at = tt }
-      go (Next q) = record { at = (refl, h) }

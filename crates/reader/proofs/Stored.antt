@@ -1,4 +1,5 @@
 -- The numbers that are still to be written complete what reading a text writes.
+use Rattle.std.specs.Prelude.{Result, Ok, Err}
 use Prim.Native.Nat.{ℕ, zero, suc, ◌+◌, ◌-◌, ◌≤◌}
 use native.Mathlib.Nat.{add-zero}
 use native.Mathlib.Omega.{arith}
@@ -11,7 +12,7 @@ use Rattle.orm.specs.Reader.{Cut, broken, cut}
 use Rattle.orm.specs.Text.{text_line}
 use Rattle.reading.specs.WideTable.{most_numbers}
 use Rattle.lexer.specs.Cuts.{line_numbers}
-use Rattle.lexer.specs.Tails.{line-sound}
+use Rattle.lexer.specs.Sound.{line-sound}
 use Rattle.grammar.specs.declared.Fault.{Fault}
 use Rattle.grammar.specs.declared.Awaited.{Awaited}
 use Rattle.grammar.specs.declared.Awaited.TheVariants.{AtDiagram}
@@ -20,8 +21,7 @@ use Rattle.grammar.specs.Awaited.{kind_at, is_going}
 use Rattle.grammar.specs.Step.{Consequence, refusing, going, step_at}
 use Rattle.grammar.specs.Room.{Room}
 use Rattle.grammar.specs.Laws.Room.{line-room, some-fields}
-use Rattle.reader.specs.declared.Line.{Line}
-use Rattle.reader.specs.declared.Line.TheVariants.{Halted, Reached}
+use Rattle.reader.specs.declared.Reached.{Reached}
 use Rattle.reader.specs.Reach.{Reach, halted, reached, line_of, line_step}
 use Rattle.reader.specs.Written.{written_from, written}
 use Rattle.reader.proofs.Running.{Running}
@@ -74,7 +74,7 @@ reached-length p acc s q acc' e rest x = go (text_line (kind_at p) s) refl x
               ]
         ]) → e ≡ length acc + length (line_numbers (kind_at p) s)
     go broken c y = let z : ◌≡◌ {A = ℕ} 0 1 = cc in absurd (omega arith)
-    go (cut v r) c y = fine v r (line-sound (kind_at p) s v r c).0 (step_at p acc v) y
+    go (cut v r) c y = fine v r (line-sound (kind_at p) s v r c) (step_at p acc v) y
 
 -- ---- turn by turn: line `number` at `at` is next, and the numbers so far end at `end`
 
@@ -90,7 +90,7 @@ pub stored-start : (text table : List ℕ) → Stored text table table AtDiagram
 unfolding written
 stored-start text table = record { is = refl }
 
-module _ (text table₀ table table' : List ℕ) (p : Awaited) (number at end : ℕ) {b : Bool} (line : Line)
+module _ (text table₀ table table' : List ℕ) (p : Awaited) (number at end : ℕ) {b : Bool} (line : Result Reached Fault)
     (w : Stored text table₀ table p number at end) (m : Room p end) (few : number ≤ end + 1) (eb : b ≡ is_going p) (tb : b ≡ true)
     (step : line_of text table' line ≡ line_step text_line p (take end table) (drop at text))
     (t : table' ≡ sets table end (line_numbers (kind_at p) (drop at text))) where
@@ -100,31 +100,31 @@ module _ (text table₀ table table' : List ℕ) (p : Awaited) (number at end : 
   one_more : most_numbers + 1 - number ≡ suc (most_numbers + 1 - (number + 1))
   one_more = omega (arith, line-room p end now_going m.known, some-fields p)
 
-  pub stored-halted : {f : Fault} → line ≡ Halted f → table' ≡ sets table₀ 0 (written text)
+  pub stored-halted : {f : Fault} → line ≡ Err f → table' ≡ sets table₀ 0 (written text)
   stored-halted {f} e =
       let x : halted (number_of f) ≡ line_step text_line p (take end table) (drop at text) =
-      subst (λ (l : Line). line_of text table' l ≡ line_step text_line p (take end table) (drop at text)) e step in
+      subst (λ (l : Result Reached Fault). line_of text table' l ≡ line_step text_line p (take end table) (drop at text)) e step in
       t
       ∙ ap (sets table end)
       (sym (ap (λ (n : ℕ). written_from n p (take end table) (drop at text)) one_more
       ∙ written-halted p (take end table) (drop at text) (most_numbers + 1 - (number + 1)) (number_of f) now_going (sym x)))
       ∙ w.is
 
-  pub stored_on : {q : Awaited} {at' e : ℕ} → length (take end table) ≡ end → line ≡ Reached q at' e
-      → Stored text table₀ table' q (number + 1) at' e
-  stored_on {q} {at'} {e} front el =
+  pub stored_on : {x : Reached} → length (take end table) ≡ end → line ≡ Ok x
+      → Stored text table₀ table' x.place (number + 1) x.at x.end
+  stored_on {x} front el =
       let ws = line_numbers (kind_at p) (drop at text) in
-      let more = written_from (most_numbers + 1 - (number + 1)) q (take e table') (drop at' text) in
-      let x : reached q (take e table') e (drop at' text) ≡ line_step text_line p (take end table) (drop at text) =
-      subst (λ (l : Line). line_of text table' l ≡ line_step text_line p (take end table) (drop at text)) el step in
-      let to : e ≡ end + length ws =
-      reached-length p (take end table) (drop at text) q (take e table') e (drop at' text) x ∙ ap (λ (n : ℕ). n + length ws) front in
+      let more = written_from (most_numbers + 1 - (number + 1)) x.place (take x.end table') (drop x.at text) in
+      let y : reached x.place (take x.end table') x.end (drop x.at text) ≡ line_step text_line p (take end table) (drop at text) =
+      subst (λ (l : Result Reached Fault). line_of text table' l ≡ line_step text_line p (take end table) (drop at text)) el step in
+      let to : x.end ≡ end + length ws =
+      reached-length p (take end table) (drop at text) x.place (take x.end table') x.end (drop x.at text) y ∙ ap (λ (n : ℕ). n + length ws) front in
       record {
         is = ap₂ {C = List ℕ} (λ (l : List ℕ) (k : ℕ). sets l k more) t to
             ∙ sym (sets_append table end ws more)
             ∙ ap (sets table end)
             (sym (ap (λ (n : ℕ). written_from n p (take end table) (drop at text)) one_more
-            ∙ written-more p (take end table) (drop at text) (most_numbers + 1 - (number + 1)) q (take e table') e (drop at' text) now_going (sym x)))
+            ∙ written-more p (take end table) (drop at text) (most_numbers + 1 - (number + 1)) x.place (take x.end table') x.end (drop x.at text) now_going (sym y)))
             ∙ w.is;
       }
 

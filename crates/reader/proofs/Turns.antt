@@ -1,4 +1,5 @@
 -- What the two loops over the lines need, turn by turn.
+use Rattle.std.specs.Prelude.{Result, Ok, Err}
 use Prim.Native.Nat.{ℕ, suc, ◌+◌, ◌-◌, ◌≤◌, ◌<◌}
 use native.Mathlib.Omega.{arith}
 use mathlib.Core.Path.{◌≡◌, refl, sym, ap, ◌∙◌, subst}
@@ -28,11 +29,11 @@ use Rattle.grammar.specs.Step.{tests_at, next_at, refusing, going, stepped, step
 use Rattle.grammar.specs.Room.{RoomAt, Room}
 use Rattle.grammar.specs.Fault.{number_of}
 use Rattle.grammar.specs.Laws.Room.{fields-at, some-fields, room_most, line-room, next_known}
-use Rattle.reader.specs.declared.Line.{Line}
-use Rattle.reader.specs.declared.Line.TheVariants.{Halted, Reached}
-use Rattle.reader.specs.declared.Lines.{Lines}
+use Rattle.refusals.specs.declared.Refusal.{Refusal}
+use Rattle.reader.specs.declared.Reached.{Reached}
+use Rattle.reader.specs.declared.Whole.{Whole}
 use Rattle.reader.specs.Lines.{ended, end_of, summarised, lines_of}
-use Rattle.reader.specs.Reach.{Reach, halted, reached, line_of, line_step, refusal_of, LevelAt, Level}
+use Rattle.reader.specs.Reach.{Reach, halted, reached, line_of, line_step, refused_at}
 use Rattle.reader.proofs.Running.{Running, halts, goes_on, runs_on, ends}
 use Rattle.reader.proofs.Answers.{was_refused, was_accepted}
 
@@ -44,13 +45,6 @@ start-room = record { known = omega arith }
 
 pub as_long : (a b : List ℕ) {n : ℕ} → length a ≡ length b → length b ≡ n → length a ≡ n
 as_long a b e l = e ∙ l
-
--- a table's position is where its numbers so far end
-level : {n : ℕ} {line : Line} {q : Awaited} {at end : ℕ} → Level n line → line ≡ Reached q at end → (at ≡ end) × (end ≤ n)
-level {n} v e = subst (λ (l : Line). LevelAt n l) e v.at
-
-pub level-within : (n : ℕ) {line : Line} {q : Awaited} {at end : ℕ} → Level n line → line ≡ Reached q at end → end ≤ n
-level-within n v e = (level v e).1
 
 -- a turn from the place `p`, with the numbers so far up to `end`
 module _ (p : Awaited) {b : Bool} (end : ℕ) (w : Room p end) (eb : b ≡ is_going p) (tb : b ≡ true) where
@@ -109,7 +103,7 @@ led next cuts p acc s q acc' end e rest la w g eq = go (next (kind_at p) s) refl
 -- ---- the answer, from what is told with the numbers
 
 refused-ended : (o : Outcome Diagram) (c line : ℕ) → refused c line 0 ≡ summarised o → refused c line 0 ≡ ended o
-refused-ended o c line e = sym (ap ended (was_refused o c line e))
+refused-ended o c line e = sym (ap ended (was_refused o c line 0 e))
 
 accepted-ended : (o : Outcome Diagram) (table : List ℕ) (end : ℕ) (t : Totals) → length (take end table) ≡ end
     → accepted (record { numbers = take end table; totals = t }) ≡ summarised o
@@ -124,50 +118,50 @@ accepted-ended o table end t front e =
 -- ---- a turn, whether over a text or over a table: `table'` holds the numbers after it
 
 module _ {form : LineKind → List ℕ → List ℕ} (next : LineKind → List ℕ → Cut) (source table table' : List ℕ) (p : Awaited) (at end : ℕ)
-    {b : Bool} (line : Line) (cuts : Cuts form next) (w : Room p end) (front : length (take end table) ≡ end) (eb : b ≡ is_going p)
+    {b : Bool} (line : Result Reached Fault) (cuts : Cuts form next) (w : Room p end) (front : length (take end table) ≡ end) (eb : b ≡ is_going p)
     (tb : b ≡ true) (step : line_of source table' line ≡ line_step next p (take end table) (drop at source)) where
-  module _ {q : Awaited} {at' e : ℕ} (el : line ≡ Reached q at' e) where
-    leads : reached q (take e table') e (drop at' source) ≡ line_step next p (take end table) (drop at source)
-    leads = subst (λ (l : Line). line_of source table' l ≡ line_step next p (take end table) (drop at source)) el step
+  module _ {x : Reached} (el : line ≡ Ok x) where
+    leads : reached x.place (take x.end table') x.end (drop x.at source) ≡ line_step next p (take end table) (drop at source)
+    leads = subst (λ (l : Result Reached Fault). line_of source table' l ≡ line_step next p (take end table) (drop at source)) el step
 
-    turn_led : Led p q end e
+    turn_led : Led p x.place end x.end
     turn_led =
-        led next cuts p (take end table) (drop at source) q (take e table') end e (drop at' source) front w (is-going p eb tb) leads
+        led next cuts p (take end table) (drop at source) x.place (take x.end table') end x.end (drop x.at source) front w (is-going p eb tb) leads
 
-    pub turn_room : Room q e
+    pub turn_room : Room x.place x.end
     turn_room = turn_led.room
 
-    pub turn_number : {number : ℕ} → number ≤ end + 1 → number + 1 ≤ e + 1
+    pub turn_number : {number : ℕ} → number ≤ end + 1 → number + 1 ≤ x.end + 1
     turn_number h = omega (arith, turn_led.after, some-fields p)
 
-    pub turn_less : most_numbers - e < most_numbers - end
+    pub turn_less : most_numbers - x.end < most_numbers - end
     turn_less = omega (arith, turn_led.after, some-fields p, room_now p end w eb tb)
 
     pub turn_on : (number : ℕ) → Running next source p (take end table) number (drop at source)
-        → Running next source q (take e table') (number + 1) (drop at' source)
+        → Running next source x.place (take x.end table') (number + 1) (drop x.at source)
     turn_on number run =
-        goes_on next cuts source p (take end table) (drop at source) number run q (take e table') e (drop at' source)
+        goes_on next cuts source p (take end table) (drop at source) number run x.place (take x.end table') x.end (drop x.at source)
         (is-going p eb tb) leads
 
-  pub turn_halted : (number : ℕ) {f : Fault} {r : Lines} → Running next source p (take end table) number (drop at source)
-      → line ≡ Halted f → r ≡ refusal_of line number → lines_of table' r ≡ summarised (diagram_in next source)
+  pub turn_halted : (number : ℕ) {f : Fault} {r : Result Whole Refusal} → Running next source p (take end table) number (drop at source)
+      → line ≡ Err f → r ≡ refused_at line number → lines_of table' r ≡ summarised (diagram_in next source)
   turn_halted number {f} run el er =
       rw (er, el)
       (halts next cuts source p (take end table) (drop at source) number run f (is-going p eb tb)
-      (subst (λ (l : Line). line_of source table' l ≡ line_step next p (take end table) (drop at source)) el step))
+      (subst (λ (l : Result Reached Fault). line_of source table' l ≡ line_step next p (take end table) (drop at source)) el step))
 
-  pub ended-halted : (number : ℕ) {f : Fault} {r : Lines} → Running next source p (take end table) number (drop at source)
-      → line ≡ Halted f → r ≡ refusal_of line number → end_of r ≡ ended (diagram_in next source)
+  pub ended-halted : (number : ℕ) {f : Fault} {r : Result Whole Refusal} → Running next source p (take end table) number (drop at source)
+      → line ≡ Err f → r ≡ refused_at line number → end_of r ≡ ended (diagram_in next source)
   ended-halted number {f} run el er =
       rw (er, el)
       (refused-ended (diagram_in next source) (number_of f) number
       (halts next cuts source p (take end table) (drop at source) number run f (is-going p eb tb)
-      (subst (λ (l : Line). line_of source table' l ≡ line_step next p (take end table) (drop at source)) el step)))
+      (subst (λ (l : Result Reached Fault). line_of source table' l ≡ line_step next p (take end table) (drop at source)) el step)))
 
-pub turn_level : (table : List ℕ) (q : Awaited) (acc : List ℕ) (number at' e : ℕ) (line : Line) → Level (length table) line
-    → line ≡ Reached q at' e → Running table_line table q acc number (drop at' table) → Running table_line table q acc number (drop e table)
-turn_level table q acc number at' e line v el run =
-    subst (λ (k : ℕ). Running table_line table q acc number (drop k table)) (level v el).0 run
+-- a table's position is where its numbers so far end
+pub turn_level : (table : List ℕ) (q : Awaited) (acc : List ℕ) (number : ℕ) {at' e : ℕ} → at' ≡ e
+    → Running table_line table q acc number (drop at' table) → Running table_line table q acc number (drop e table)
+turn_level table q acc number e run = rw e at run
 
 -- ---- behind the last line
 

@@ -1,59 +1,44 @@
 -- Rounds lower the sizes, so that a run ends, and each turn of the loop is a step of `run`.
-use mathlib.Core.Path.{◌≡◌, refl, sym, ap, ◌∙◌, subst}
-use mathlib.Core.Bool.{true, false}
-use mathlib.Core.Option.{Option, none, some}
-use mathlib.Core.List.{List, [], ◌∷◌}
-use Prim.Native.Nat.{ℕ, zero, suc, ◌+◌, ◌*◌, ◌-◌, ◌≤◌, ◌<◌}
-use native.Mathlib.Numerals.{add-one}
-use native.Mathlib.Omega.{arith}
-use lib.Dec.{eqb}
-use lib.ListN.{length, get_or, take}
-use lib.Seq.{length-take-le}
-use borrow.Author.Tests.{eq-eqb, ne_eqb}
-use mir.Syntax.{w32}
-use mir.Val.{Fits}
+use Rattle.std.specs.Prelude.{◌≡◌, refl, true, false, [], ◌∷◌, ℕ, zero, suc, ◌+◌, ◌*◌, ◌-◌, ◌≤◌, ◌<◌, List, eqb, length, take, drop, slice_index_or, nat_lt, position, zip, slice_index, All, Option, Some, None, Result, Err}
+use Rattle.std.proofs.Common.{sym, ap, ◌∙◌, subst, arith, add-one, eq-eqb, ne_eqb, Fits, w32}
+use Rattle.std.proofs.Math.Option as lowest
+use Rattle.std.proofs.Math.Option.{none, some}
+use Rattle.std.proofs.Math.Path.{subst⁻¹}
+use Rattle.std.proofs.Math.Seq.{take-append_seam}
+use Rattle.counting.specs.Terms.{Each}
 use Rattle.counting.specs.Lists.{same}
 use Rattle.counting.proofs.Laws.Distinct.{apart-of-false}
 use Rattle.counting.proofs.Laws.Instances.{same_decides}
 use Rattle.fixpoint.specs.Limits.{Limit, Verdict, unsatisfiable, fixpoint, round, upper_after, first_below, slack, run_from, run}
 use Rattle.fixpoint.proofs.Laws.Round.{round_≼}
 use Rattle.fixpoint.proofs.Laws.Tests.{Found, first_below-found, slack_less}
-use Rattle.buffer.specs.Written.{Wrote}
-use Rattle.buffer.specs.Laws.{wrote-whole, wrote-end, wrote-front, wrote-within, wrote-long}
-use Rattle.lowering.specs.Encoding.{decode}
-use Rattle.lowering.specs.Closed.{Closed}
-use Rattle.dependents.specs.Dependents.{Room, Linked, Linking, Below, differing}
+use Rattle.buffer.specs.Written.{WroteAll}
+use Rattle.buffer.specs.Laws.{wrote-whole, wrote-end, wrote-long}
+use Rattle.lowering.specs.Coded.{limits_of}
+use Rattle.lowering.specs.Closed.{Closed, Inside}
+use Rattle.lowering.specs.Laws.Limits.{closed-inside}
+use Rattle.lowering.specs.declared.Limits.{Limits}
+use Rattle.dependents.specs.Dependents.{Linked, differing}
+use Rattle.dependents.specs.declared.Links.{Links}
+use Rattle.dependents.specs.Laws.Building.{links-linked, links-sized}
 use Rattle.dependents.specs.Laws.Differing.{differing-below, differing-long, none_differ}
-use Rattle.rounds.specs.declared.Lowest.{Lowest}
-use Rattle.rounds.specs.declared.Lowest.TheVariants.{At, Nowhere}
 use Rattle.rounds.specs.declared.Progress.{Progress}
 use Rattle.rounds.specs.declared.Progress.TheVariants.{Emptied, Settled, Going}
-use Rattle.rounds.specs.declared.Outcome.{Outcome}
-use Rattle.rounds.specs.declared.Outcome.TheVariants.{Unsatisfiable, Fixpoint}
-use Rattle.rounds.specs.Answer.{lowest_of, step_from, lowered_in, step_of, outcome_of, rounds_of, end_of, first_in, listed_after, scratch_after, LinksAfter}
-use Rattle.rounds.specs.Answer.{Bounds, Scratch, Standing, Later, Continued, Advanced, Relinked, Ended}
-use Rattle.rounds.proofs.Scan.{changed-first}
+use Rattle.rounds.specs.declared.Emptied as refusal
+use Rattle.rounds.specs.declared.Rounds.{Rounds}
+use Rattle.rounds.specs.Answer.{lowest_of, step_from, lowered_in, step_of, emptied, outcome_of, rounds_of, end_of, first_in, listed_after, scratch_after, Linked_in, LinksAfter}
+use Rattle.rounds.specs.Answer.{Bounds, Scratch, Standing, Continued, Advanced, Relinked, Ended}
+use Rattle.rounds.specs.Scan.{position_is, changed_first}
 
 -- ---- what a round comes to
 
-pub conclude_at : {p : Lowest} (s k : ℕ) → p ≡ At s → Emptied s ≡ step_from p k
-conclude_at s k e = rw e
-
-pub conclude_settled : {p : Lowest} (k : ℕ) → p ≡ Nowhere → k ≡ 0 → Settled ≡ step_from p k
-conclude_settled k e z = rw (e, z)
-
-pub conclude_going : {p : Lowest} (k : ℕ) → p ≡ Nowhere → (k ≡ 0 → ⊥) → Going k ≡ step_from p k
-conclude_going zero e n = absurd (n refl)
-conclude_going (suc k) e n = rw e
-
-pub ended_at : {p : Lowest} (s n : ℕ) → p ≡ At s → Unsatisfiable s n ≡ end_of p n
-ended_at s n e = rw e
-
-pub ended_nowhere : {p : Lowest} (n : ℕ) → p ≡ Nowhere → Fixpoint n ≡ end_of p n
-ended_nowhere n e = rw e
+any_default : (xs : List ℕ) (k d : ℕ) → k < length xs → slice_index_or xs k d ≡ slice_index xs k
+any_default [] k d h = absurd (omega arith)
+any_default (x ∷ xs) zero d h = refl
+any_default (x ∷ xs) (suc k) d h = any_default xs k d (omega arith)
 
 -- the round was made, and the sets that it lowered are listed
-module _ (ls : List Limit) (c changed : List ℕ) {changed' : List ℕ} {k : ℕ} (w : Wrote changed 0 (lowered_in ls c) changed' k)
+module _ (ls : List Limit) (c changed : List ℕ) {changed' : List ℕ} {k : ℕ} (w : WroteAll changed (lowered_in ls c) changed' k)
     (room : length c ≤ length changed) where
   sized : length (round ls c) ≡ length c
   sized = (round_≼ ls c).sized
@@ -61,71 +46,67 @@ module _ (ls : List Limit) (c changed : List ℕ) {changed' : List ℕ} {k : ℕ
   fits : length (lowered_in ls c) ≤ length changed
   fits = omega (arith, differing-long 0 c (round ls c), sized)
 
-  pub listed-wrote : Wrote changed 0 (lowered_in ls c) changed' (length (lowered_in ls c))
-  listed-wrote = subst (Wrote changed 0 (lowered_in ls c) changed') (wrote-end w fits) w
+  pub listed-wrote : WroteAll changed (lowered_in ls c) changed' (length (lowered_in ls c))
+  listed-wrote = subst (WroteAll changed (lowered_in ls c) changed') (wrote-end w fits) w
 
   pub listed-within : k ≤ length changed'
-  listed-within = wrote-within w fits
-
-  pub listed-count : k ≡ length (take k changed')
-  listed-count = sym (length-take-le k changed' listed-within)
+  listed-within = omega (arith, wrote-end w fits, wrote-long w, fits)
 
   pub listed-is : take k changed' ≡ lowered_in ls c
-  listed-is = wrote-front w fits
+  listed-is = rw (wrote-end w fits, wrote-whole w fits) (take-append_seam (lowered_in ls c) (drop (length (lowered_in ls c)) changed))
 
-  below : {ss : List ℕ} → ss ≡ lowered_in ls c → (i : ℕ) → i < length ss → get_or ss i 0 < length c
-  below e i h = rw e (omega (arith, differing-below 0 c (round ls c) i (rw e at h), sized))
+  pub listed_below : (lower : List ℕ) → length lower ≡ length c → All (λ s. s < length lower) (take k changed')
+  listed_below lower e = rw listed-is (λ i d h. below i d h)
+    where
+      below : (i d : ℕ) → i < length (lowered_in ls c) → slice_index_or (lowered_in ls c) i d < length lower
+      below i d h =
+          let same : slice_index_or (lowered_in ls c) i d ≡ slice_index (lowered_in ls c) i = any_default (lowered_in ls c) i d h in
+          omega (arith, differing-below 0 c (round ls c) i h, sized)
 
-  pub listed_below : (lower : List ℕ) → length lower ≡ length c → Below (take k changed') (length lower)
-  listed_below lower e = record { at = λ i h. rw e (below listed-is i h) }
-
-  module _ (lower : List ℕ) {c' : List ℕ} {r : Progress} {p : Lowest} (e : c' ≡ round ls c) (er : r ≡ step_from p k) where
-    pub step_is : p ≡ lowest_of (first_below 0 lower c') → r ≡ step_of ls lower c
+  module _ (lower : List ℕ) {c' : List ℕ} {r : Progress} {p : Option ℕ} (e : c' ≡ round ls c) (er : r ≡ step_from p k) where
+    from-lowest : p ≡ lowest_of (first_below 0 lower c') → r ≡ step_of ls lower c
     unfolding step_of
-    step_is ep = rw (er, ep, e, wrote-end w fits)
+    from-lowest ep = rw (er, ep, e, wrote-end w fits)
 
-    pub changed-is : p ≡ lowest_of (first_in lower c' (take k changed')) → length lower ≡ length c → first_below 0 lower c ≡ none → r ≡ step_of ls lower c
+    pub step_is : p ≡ position (λ (p : ℕ × ℕ). nat_lt p.1 p.0) (zip lower c') → r ≡ step_of ls lower c
+    step_is ep = from-lowest (ep ∙ position_is lower c')
+
+    pub changed-is : p ≡ first_in lower c' (take k changed') → length lower ≡ length c → first_below 0 lower c ≡ none → r ≡ step_of ls lower c
     changed-is ep paired above =
-        step_is (ep ∙ ap lowest_of (ap (first_in lower c') (listed-is ∙ ap (differing 0 c) (sym e))
-        ∙ changed-first lower c' c paired (sym (ap length e ∙ sized)) above))
+        from-lowest (ep ∙ ap (first_in lower c') (listed-is ∙ ap (differing 0 c) (sym e)) ∙ changed_first lower c c' paired (sym (ap length e ∙ sized)) above)
 
--- round n, unless it is the first
-pub turn_later : {n : ℕ} {xs lower links changed : List ℕ} {count : ℕ} {upper next : List ℕ}
-    → Continued n xs lower links changed count upper next → (n ≡ 1 → ⊥) → Later xs lower links changed count upper next
-turn_later w m = w.later m
-
-pub step-paired : {xs lower upper next changed : List ℕ} {upper' : List ℕ} → Standing xs lower upper next changed
-    → upper' ≡ round (decode xs) upper → length lower ≡ length upper'
-step-paired {xs} {upper = upper} w e = w.paired ∙ sym (ap length e ∙ (round_≼ (decode xs) upper).sized)
+pub step-paired : {l : Limits} {lower upper : List ℕ} {r : Rounds} → Standing l lower r
+    → upper ≡ round (limits_of l) r.upper.now → length lower ≡ length upper
+step-paired {l} {r = r} w e = w.paired ∙ sym (ap length e ∙ (round_≼ (limits_of l) r.upper.now).sized)
 
 -- ---- the run
 
-slack-small : (f c : List ℕ) → ((s : ℕ) → get_or c s 0 ≤ 4096) → slack f c ≤ 4096 * length c
+slack-small : (f c : List ℕ) → ((s : ℕ) → slice_index c s ≤ 4096) → slack f c ≤ 4096 * length c
 unfolding slack
 slack-small [] c s = omega arith
 slack-small (f ∷ fs) [] s = omega arith
 slack-small (f ∷ fs) (x ∷ xs) s = omega (arith, s 0, slack-small fs xs (λ k. s (suc k)))
 
-found_of : (x : Option ℕ) {r : Lowest} (i : ℕ) → r ≡ At i → r ≡ lowest_of x → x ≡ some i
-found_of (some j) i p e = cc
-found_of none i p e = cc
-
-none_of : (x : Option ℕ) {r : Lowest} → r ≡ Nowhere → r ≡ lowest_of x → x ≡ none
+none_of : (x : lowest.Option ℕ) {r : Option ℕ} → r ≡ None → r ≡ lowest_of x → x ≡ none
 none_of (some j) p e = cc
 none_of none p e = refl
 
+found_of : (x : lowest.Option ℕ) {r : Option ℕ} (i : ℕ) → r ≡ Some i → r ≡ lowest_of x → x ≡ some i
+found_of (some j) i p e = cc
+found_of none i p e = cc
+
 -- the three ends of a round
-emptied-of : (x : Option ℕ) (k : ℕ) {r : Progress} (s : ℕ) → r ≡ Emptied s → r ≡ step_from (lowest_of x) k → x ≡ some s
+emptied-of : (x : lowest.Option ℕ) (k : ℕ) {r : Progress} (s : ℕ) → r ≡ Emptied s → r ≡ step_from (lowest_of x) k → x ≡ some s
 emptied-of (some j) k s p e = cc
 emptied-of none zero s p e = cc
 emptied-of none (suc k) s p e = cc
 
-settled-of : (x : Option ℕ) (k : ℕ) {r : Progress} → r ≡ Settled → r ≡ step_from (lowest_of x) k → (x ≡ none) × (k ≡ 0)
+settled-of : (x : lowest.Option ℕ) (k : ℕ) {r : Progress} → r ≡ Settled → r ≡ step_from (lowest_of x) k → (x ≡ none) × (k ≡ 0)
 settled-of (some j) k p e = let z : ◌≡◌ {A = ℕ} 0 1 = cc in absurd (omega arith)
 settled-of none zero p e = (refl, refl)
 settled-of none (suc k) p e = let z : ◌≡◌ {A = ℕ} 0 1 = cc in absurd (omega arith)
 
-going_of : (x : Option ℕ) (k m : ℕ) {r : Progress} → r ≡ Going m → r ≡ step_from (lowest_of x) k → (x ≡ none) × (k ≡ m) × (0 < k)
+going_of : (x : lowest.Option ℕ) (k m : ℕ) {r : Progress} → r ≡ Going m → r ≡ step_from (lowest_of x) k → (x ≡ none) × (k ≡ m) × (0 < k)
 going_of (some j) k m p e = let z : ◌≡◌ {A = ℕ} 0 1 = cc in absurd (omega arith)
 going_of none zero m p e = let z : ◌≡◌ {A = ℕ} 0 1 = cc in absurd (omega arith)
 going_of none (suc k) m p e = (refl, (let q : suc k ≡ m = cc in q), omega arith)
@@ -181,94 +162,92 @@ module _ (ls : List Limit) (lower start : List ℕ) where
               rest = rw (e, t, run_from) at u;
             }
 
--- what is lent stays as long
-pub record Sized (a b c d a' b' c' d' : List ℕ) : Type 0 where
-  pub upper : length a' ≡ length a
-  pub next : length b' ≡ length b
-  pub changed : length c' ≡ length c
-  pub links : length d' ≡ length d
+-- ---- the loop: after `n` rounds the upper bounds are those of `r`, and the next round can be made
 
-pub sized-start : (a b c d : List ℕ) → Sized a b c d a b c d
-sized-start a b c d = record { upper = refl; next = refl; changed = refl; links = refl }
-
--- ---- the loop: after `n` rounds the upper bounds are `c`, and the next round can be made
+pub record Turning (l : Limits) (lower : List ℕ) (r₀ : Rounds) (k₀ : Links) (n count : ℕ) (r : Rounds) (k : Links) : Type 0 where
+  pub name : r.upper.ghost_name ≡ r₀.upper.ghost_name
+  pub bounds : Bounds l lower r₀.upper.now
+  pub scratch : Scratch l r₀ k₀
+  pub running : Running (limits_of l) lower r₀.upper.now n r.upper.now
+  pub standing : Standing l lower r
+  pub continued : Continued (n + 1) l lower k r count
+  pub stands : r.upper.now ≡ upper_after (limits_of l) r₀.upper.now n
+  pub listed : r.changed.now ≡ listed_after (limits_of l) r₀.upper.now r₀.changed.now n
+  pub linked : LinksAfter n (limits_of l) k₀ k
+  pub long : length r.upper.now ≡ length r₀.upper.now
+  pub heads : length k.last.now ≡ length r₀.upper.now
 
 -- the links behind the next round
-relinked : (n : ℕ) (xs links₀ links : List ℕ) {links' : List ℕ} (sets : ℕ) → LinksAfter n xs sets links₀ links
-    → Relinked (n + 1) xs sets links links' → Linking xs sets (length xs) links₀ links'
-relinked zero xs links₀ links sets w r = rw (← w) (r.made refl)
-relinked (suc n) xs links₀ links sets w r = rw (r.kept (λ e. absurd (omega arith))) w
+relinked : (n : ℕ) (l : Limits) (k₀ k k' : Links) → LinksAfter n (limits_of l) k₀ k → Relinked (n + 1) l k k' → Linked_in (limits_of l) k₀ k'
+relinked zero l k₀ k k' w r =
+    let m = r.made refl in
+    record { last = rw (← w.last, ← w.uses) m.last; uses = rw (← w.last, ← w.uses) m.uses }
+relinked (suc n) l k₀ k k' w r =
+    let s = r.kept (λ e. absurd (omega arith)) in
+    record { last = s.last ∙ w.last; uses = s.uses ∙ w.uses }
 
-pub record Turning (xs lower start changed₀ links₀ : List ℕ) (n : ℕ) (changed : List ℕ) (count : ℕ) (c next links : List ℕ) : Type 0 where
-  pub bounds : Bounds xs lower start
-  pub running : Running (decode xs) lower start n c
-  pub standing : Standing xs lower c next changed
-  pub continued : Continued (n + 1) xs lower links changed count c next
-  pub stands : c ≡ upper_after (decode xs) start n
-  pub listed : changed ≡ listed_after (decode xs) start changed₀ n
-  pub room : Room xs (length start) links
-  pub linked : LinksAfter n xs (length start) links₀ links
-  pub long : length c ≡ length start
-
-module _ {xs lower start changed₀ links₀ : List ℕ} where
-  pub turn_start : {next : List ℕ} → Bounds xs lower start → Scratch xs start next changed₀ links₀ → first_below 0 lower start ≡ none
-      → Turning xs lower start changed₀ links₀ 0 changed₀ 0 start next links₀
+module _ {l : Limits} {lower : List ℕ} {r₀ : Rounds} {k₀ : Links} where
+  pub turn_start : Bounds l lower r₀.upper.now → Scratch l r₀ k₀ → first_below 0 lower r₀.upper.now ≡ none → Turning l lower r₀ k₀ 0 0 r₀ k₀
   unfolding upper_after listed_after
   turn_start b s above = record {
+    name = refl;
     bounds = b;
-    running = begin (decode xs) lower start above;
-    standing = record {
-      closed = b.closed;
-      paired = b.paired;
-      next_room = s.next_room;
-      changed_room = s.changed_room;
-    };
+    scratch = s;
+    running = begin (limits_of l) lower r₀.upper.now above;
+    standing = record { closed = b.closed; paired = b.paired; next_room = s.next_room; changed_room = s.changed_room };
     continued = record { later = λ n. absurd (n refl) };
     stands = refl;
     listed = refl;
-    room = s.room;
-    linked = refl;
+    linked = record { last = refl; uses = refl };
     long = refl;
+    heads = s.last_room;
   }
 
-  module _ {n : ℕ} {changed : List ℕ} {count : ℕ} {c next links : List ℕ} (w : Turning xs lower start changed₀ links₀ n changed count c next links) where
+  module _ {n count : ℕ} {r : Rounds} {k : Links} (w : Turning l lower r₀ k₀ n count r k) where
+    abbrev ls : List Limit
+    ls = limits_of l
+
+    abbrev c : List ℕ
+    c = r.upper.now
+
+    abbrev start : List ℕ
+    start = r₀.upper.now
+
     pub count_fits : Fits w32 (n + 1)
     count_fits = record { fits = omega (arith, w.running.counted, w.bounds.few, slack-small lower start w.bounds.small) }
 
+    pub turn_closed : Closed (length k.last.now) l
+    turn_closed = rw (w.heads ∙ sym w.long) w.standing.closed
+
     -- the round was made
-    module _ {r : Progress} {c' next' changed' : List ℕ} (a : Advanced xs lower c changed r c' next' changed') where
-      as_long : length c' ≡ length c
-      as_long = ap length a.stands ∙ (round_≼ (decode xs) c).sized
+    module _ {p : Progress} {r' : Rounds} (a : Advanced l lower r p r') where
+      as_long : length r'.upper.now ≡ length c
+      as_long = ap length a.stands ∙ (round_≼ ls c).sized
 
-      pub turn_closed : Closed xs (length c')
-      turn_closed = rw as_long w.standing.closed
-
-      pub turn_room : Room xs (length c') links
-      turn_room = rw (as_long ∙ w.long) w.room
-
-      stood : c' ≡ upper_after (decode xs) start (suc n)
+      stood : r'.upper.now ≡ upper_after ls start (suc n)
       unfolding upper_after
-      stood = a.stands ∙ ap (round (decode xs)) w.stands
+      stood = a.stands ∙ ap (round ls) w.stands
 
-      long : length (lowered_in (decode xs) c) ≤ length changed
-      long = fits (decode xs) c changed a.listed w.standing.changed_room
+      long : length (lowered_in ls c) ≤ length r.changed.now
+      long = fits ls c r.changed.now a.listed w.standing.changed_room
 
-      lists : changed' ≡ listed_after (decode xs) start changed₀ (suc n)
+      lists : r'.changed.now ≡ listed_after ls start r₀.changed.now (suc n)
       unfolding listed_after
       lists = wrote-whole a.listed long ∙ rw (w.listed, w.stands)
 
-      told : r ≡ step_from (lowest_of (first_below 0 lower (round (decode xs) c))) (length (lowered_in (decode xs) c))
+      told : p ≡ step_from (lowest_of (first_below 0 lower (round ls c))) (length (lowered_in ls c))
       unfolding step_of
       told = a.came
 
-      counts : eqb 0 (length (lowered_in (decode xs) c)) ≡ same (round (decode xs) c) c
-      counts = none_differ 0 c (round (decode xs) c) (sym (round_≼ (decode xs) c).sized)
+      counts : eqb 0 (length (lowered_in ls c)) ≡ same (round ls c) c
+      counts = none_differ 0 c (round ls c) (sym (round_≼ ls c).sized)
 
-      over : (v : Verdict) {o : Outcome} → run (decode xs) lower start ≡ v → rounds_of v ≡ suc n → o ≡ outcome_of v
-          → Ended xs lower start changed₀ links₀ o c' next' changed' links
+      over : (v : Verdict) {o : Result ℕ refusal.Emptied} → run ls lower start ≡ v → rounds_of v ≡ suc n → o ≡ outcome_of v
+          → Ended l lower r₀ k₀ o r' k
       over v is e q = record {
         count = n;
         counted = ap rounds_of is ∙ e;
+        name = a.name ∙ w.name;
         outcome = q ∙ ap outcome_of (sym is);
         stands = stood;
         same = a.same ∙ sym a.stands ∙ stood;
@@ -276,42 +255,46 @@ module _ {xs lower start changed₀ links₀ : List ℕ} where
         linked = w.linked;
       }
 
-      module _ {end : Lowest} {m : ℕ} {o : Outcome} (em : m ≡ n + 1) (eo : o ≡ end_of end m) where
-        pub turn_emptied : (s : ℕ) → r ≡ Emptied s → end ≡ At s → Ended xs lower start changed₀ links₀ o c' next' changed' links
+      module _ {end : Option ℕ} {m : ℕ} {o : Result ℕ refusal.Emptied} (em : m ≡ n + 1) (eo : o ≡ end_of end m) where
+        pub turn_emptied : (s : ℕ) → p ≡ Emptied s → end ≡ Some s → Ended l lower r₀ k₀ o r' k
         turn_emptied s e ee =
             over (unsatisfiable s (suc n))
-            (below-is (decode xs) lower start w.running
-            (emptied-of (first_below 0 lower (round (decode xs) c)) (length (lowered_in (decode xs) c)) s e told))
+            (below-is ls lower start w.running (emptied-of (first_below 0 lower (round ls c)) (length (lowered_in ls c)) s e told))
             refl (rw (eo, ee, em, add-one))
 
-        pub turn_settled : r ≡ Settled → end ≡ Nowhere → Ended xs lower start changed₀ links₀ o c' next' changed' links
+        pub turn_settled : p ≡ Settled → end ≡ None → Ended l lower r₀ k₀ o r' k
         turn_settled e ee =
-            let both = settled-of (first_below 0 lower (round (decode xs) c)) (length (lowered_in (decode xs) c)) e told in
-            over (fixpoint (suc n) (round (decode xs) c))
-            (same-is (decode xs) lower start w.running both.0 (sym counts ∙ eq-eqb 0 (length (lowered_in (decode xs) c)) (sym both.1)))
+            let both = settled-of (first_below 0 lower (round ls c)) (length (lowered_in ls c)) e told in
+            over (fixpoint (suc n) (round ls c))
+            (same-is ls lower start w.running both.0 (sym counts ∙ eq-eqb 0 (length (lowered_in ls c)) (sym both.1)))
             refl (rw (eo, ee, em, add-one))
 
-      module _ (k : ℕ) (e : r ≡ Going k) where
-        parts : (first_below 0 lower (round (decode xs) c) ≡ none) × (length (lowered_in (decode xs) c) ≡ k) × (0 < length (lowered_in (decode xs) c))
-        parts = going_of (first_below 0 lower (round (decode xs) c)) (length (lowered_in (decode xs) c)) k e told
+      module _ (m : ℕ) (e : p ≡ Going m) where
+        parts : (first_below 0 lower (round ls c) ≡ none) × (length (lowered_in ls c) ≡ m) × (0 < length (lowered_in ls c))
+        parts = going_of (first_below 0 lower (round ls c)) (length (lowered_in ls c)) m e told
 
-        differ : same (round (decode xs) c) c ≡ false
-        differ = sym counts ∙ ne_eqb 0 (length (lowered_in (decode xs) c)) (λ z. omega (arith, parts.2))
+        differ : same (round ls c) c ≡ false
+        differ = sym counts ∙ ne_eqb 0 (length (lowered_in ls c)) (λ z. omega (arith, parts.2))
 
-        pub turn_falls : slack lower c' < slack lower c
-        turn_falls = rw a.stands (falls (decode xs) lower start w.running parts.0 differ w.standing.paired)
+        pub turn_falls : slack lower r'.upper.now < slack lower c
+        turn_falls = rw a.stands (falls ls lower start w.running parts.0 differ w.standing.paired)
 
-        pub turn_more : {links' : List ℕ} → Relinked (n + 1) xs (length c') links links'
-            → Turning xs lower start changed₀ links₀ (n + 1) changed' k c' next' links'
-        turn_more {links'} re =
-            let index : Linking xs (length start) (length xs) links₀ links' =
-            relinked n xs links₀ links (length start) w.linked (rw (as_long ∙ w.long) at re) in
-            let linked : Linked xs (length c') (length xs) links' = rw (as_long ∙ w.long) index.linked in
+        pub turn_more : {k' : Links} → Relinked (n + 1) l k k' → Turning l lower r₀ k₀ (n + 1) m r' k'
+        turn_more {k'} re =
+            let made : Linked_in ls k₀ k' = relinked n l k₀ k k' w.linked re in
+            let inside : Each (Inside (length k₀.last.now)) ls =
+            subst⁻¹ (λ j. Each (Inside j) ls) w.scratch.last_room (closed-inside l w.bounds.closed) in
+            let linked : Linked ls k'.last.now k'.uses.now =
+            rw (made.last, made.uses) (links-linked (length k₀.last.now) k₀.uses.now ls inside w.scratch.uses_room) in
+            let heads : length k'.last.now ≡ length start =
+            ap length made.last ∙ links-sized (length k₀.last.now) k₀.uses.now ls ∙ w.scratch.last_room in
             record {
+              name = a.name ∙ w.name;
               bounds = w.bounds;
-              running = rw (a.stands, add-one) (more (decode xs) lower start w.running parts.0 differ w.standing.paired);
+              scratch = w.scratch;
+              running = rw (a.stands, add-one) (more ls lower start w.running parts.0 differ w.standing.paired);
               standing = record {
-                closed = linked.closed;
+                closed = rw as_long w.standing.closed;
                 paired = w.standing.paired ∙ sym as_long;
                 next_room = ap length (a.stands ∙ sym a.same);
                 changed_room = omega (arith, as_long, w.standing.changed_room, wrote-long a.listed);
@@ -320,34 +303,35 @@ module _ {xs lower start changed₀ links₀ : List ℕ} where
                 later = λ _. record {
                   due = record {
                     linked = linked;
+                    heads = heads ∙ sym w.long ∙ sym as_long;
                     before = c;
                     made = a.stands;
-                    listed = rw (← parts.1, a.stands) (wrote-front a.listed long);
+                    listed = rw (← parts.1, a.stands) (listed-is ls c r.changed.now a.listed w.standing.changed_room);
                   };
-                  within = rw (← parts.1) (wrote-within a.listed long);
+                  within = rw (← parts.1) (listed-within ls c r.changed.now a.listed w.standing.changed_room);
                   same = a.same ∙ sym a.stands;
                   above = rw a.stands parts.0;
                 };
               };
               stands = rw add-one stood;
               listed = rw add-one lists;
-              room = index.linked.room;
-              linked = rw add-one index;
+              linked = rw add-one made;
               long = as_long ∙ w.long;
+              heads = heads;
             }
 
 -- ---- the start
 
-pub start_none : (lower upper : List ℕ) {r : Lowest} → r ≡ Nowhere → r ≡ lowest_of (first_below 0 lower upper) → first_below 0 lower upper ≡ none
-start_none lower upper p q = none_of (first_below 0 lower upper) p q
+pub start_none : (lower upper : List ℕ) {p : Option ℕ} → p ≡ None → p ≡ position (λ (p : ℕ × ℕ). nat_lt p.1 p.0) (zip lower upper) → first_below 0 lower upper ≡ none
+start_none lower upper p q = none_of (first_below 0 lower upper) p (q ∙ position_is lower upper)
 
 -- the search at the start has found a set
-module _ (ls : List Limit) (lower start : List ℕ) {r : Lowest} (s : ℕ) (q : r ≡ lowest_of (first_below 0 lower start)) (p : r ≡ At s) where
+module _ (ls : List Limit) (lower start : List ℕ) {p : Option ℕ} (s : ℕ) (q : p ≡ position (λ (p : ℕ × ℕ). nat_lt p.1 p.0) (zip lower start)) (e : p ≡ Some s) where
   start_is : run ls lower start ≡ unsatisfiable s 0
   unfolding run
-  start_is = rw (found_of (first_below 0 lower start) s p q, run)
+  start_is = rw (found_of (first_below 0 lower start) s e (q ∙ position_is lower start), run)
 
-  pub start-outcome : Unsatisfiable s 0 ≡ outcome_of (run ls lower start)
+  pub start-outcome : Err (emptied s 0) ≡ outcome_of (run ls lower start)
   start-outcome = ap outcome_of (sym start_is)
 
   pub start-upper : start ≡ upper_after ls start (rounds_of (run ls lower start))
@@ -361,29 +345,21 @@ module _ (ls : List Limit) (lower start : List ℕ) {r : Lowest} (s : ℕ) (q : 
   unfolding listed_after
   start-listed changed = rw start_is
 
-  pub start-links : (xs links : List ℕ) (n : ℕ) → LinksAfter (rounds_of (run ls lower start) - 1) xs n links links
-  start-links xs links n = rw start_is refl
+  pub start-links : (k : Links) → LinksAfter (rounds_of (run ls lower start) - 1) ls k k
+  start-links k = rw start_is (record { last = refl; uses = refl })
 
 -- the rounds have ended
-module _ {xs lower start changed links : List ℕ} {r : Outcome} {upper next changed' links' : List ℕ}
-    (w : Ended xs lower start changed links r upper next changed' links') where
-  pub ended-upper : upper ≡ upper_after (decode xs) start (rounds_of (run (decode xs) lower start))
+module _ {l : Limits} {lower : List ℕ} {r₀ : Rounds} {k₀ : Links} {o : Result ℕ refusal.Emptied} {r : Rounds} {k : Links} (w : Ended l lower r₀ k₀ o r k) where
+  pub ended-upper : r.upper.now ≡ upper_after (limits_of l) r₀.upper.now (rounds_of (run (limits_of l) lower r₀.upper.now))
   ended-upper = rw w.counted w.stands
 
-  pub ended-next : (next₀ : List ℕ) → next ≡ scratch_after (rounds_of (run (decode xs) lower start)) next₀ upper
+  pub ended-next : (next₀ : List ℕ) → r.next.now ≡ scratch_after (rounds_of (run (limits_of l) lower r₀.upper.now)) next₀ r.upper.now
   ended-next next₀ = rw w.counted (w.same ∙ sym w.stands)
 
-  pub ended-listed : changed' ≡ listed_after (decode xs) start changed (rounds_of (run (decode xs) lower start))
+  pub ended-listed : r.changed.now ≡ listed_after (limits_of l) r₀.upper.now r₀.changed.now (rounds_of (run (limits_of l) lower r₀.upper.now))
   ended-listed = rw w.counted w.listed
 
-  pub ended-links : LinksAfter (rounds_of (run (decode xs) lower start) - 1) xs (length start) links links'
-  ended-links = let z : rounds_of (run (decode xs) lower start) - 1 ≡ w.count = omega (arith, w.counted) in rw z w.linked
-
--- ---- the links behind the first round
-
-module _ (n : ℕ) (xs : List ℕ) (sets : ℕ) (links : List ℕ) where
-  pub relink_made : {links' : List ℕ} → n ≡ 1 → Linking xs sets (length xs) links links' → Relinked n xs sets links links'
-  relink_made e k = record { made = λ _. k; kept = λ d. absurd (d e) }
-
-  pub relink_kept : (n ≡ 1 → ⊥) → Relinked n xs sets links links
-  relink_kept d = record { made = λ e. absurd (d e); kept = λ _. refl }
+  pub ended-links : LinksAfter (rounds_of (run (limits_of l) lower r₀.upper.now) - 1) (limits_of l) k₀ k
+  ended-links =
+      let z : rounds_of (run (limits_of l) lower r₀.upper.now) - 1 ≡ w.count = omega (arith, w.counted) in
+      rw z w.linked

@@ -1,27 +1,28 @@
 -- What the functions answer, in the words of Limits.antt.
-use Rattle.std.specs.Prelude.{ℕ, zero, suc, ◌≤◌, ◌≡◌, true, false, List, [], ◌∷◌, ◌++◌, ltb, length, get_or, take, drop}
-use Rattle.std.proofs.Math.Option.{Option, none, some}
+use Rattle.std.specs.Prelude.{ℕ, zero, suc, ◌≤◌, ◌≡◌, List, ◌++◌, length, take, drop, nat_lt, find, slice_index, Option, Some, None, Result, Ok, Err}
+use Rattle.std.proofs.Math.Option as lowest
+use Rattle.std.proofs.Math.Option.{none, some}
 use Rattle.fixpoint.specs.Limits.{Limit, Verdict, unsatisfiable, fixpoint, first_below, round, upper_after, run}
-use Rattle.buffer.specs.Written.{Wrote}
-use Rattle.lowering.specs.Encoding.{decode}
+use Rattle.buffer.specs.Written.{WroteAll}
+use Rattle.lowering.specs.Coded.{limits_of}
 use Rattle.lowering.specs.Closed.{Closed}
-use Rattle.dependents.specs.Dependents.{Room, Linking, Due, differing}
-use Rattle.rounds.specs.declared.Lowest.{Lowest}
-use Rattle.rounds.specs.declared.Lowest.TheVariants.{At, Nowhere}
+use Rattle.lowering.specs.declared.Limits.{Limits}
+use Rattle.dependents.specs.Dependents.{Due, differing, links, operand_count}
+use Rattle.dependents.specs.declared.Links.{Links}
 use Rattle.rounds.specs.declared.Progress.{Progress}
 use Rattle.rounds.specs.declared.Progress.TheVariants.{Emptied, Settled, Going}
-use Rattle.rounds.specs.declared.Outcome.{Outcome}
-use Rattle.rounds.specs.declared.Outcome.TheVariants.{Unsatisfiable, Fixpoint}
+use Rattle.rounds.specs.declared.Emptied as refusal
+use Rattle.rounds.specs.declared.Rounds.{Rounds}
 
-abbrev pub lowest_of : Option ℕ → Lowest
-lowest_of (some i) = At i
-lowest_of none = Nowhere
+abbrev pub lowest_of : lowest.Option ℕ → Option ℕ
+lowest_of (some i) = Some i
+lowest_of none = None
 
 -- The end of a round that emptied this set, or none, and lowered so many
-abbrev pub step_from : Lowest → ℕ → Progress
-step_from (At s) k = Emptied s
-step_from Nowhere zero = Settled
-step_from Nowhere (suc k) = Going (suc k)
+abbrev pub step_from : Option ℕ → ℕ → Progress
+step_from (Some s) k = Emptied s
+step_from None zero = Settled
+step_from None (suc k) = Going (suc k)
 
 -- The sets that a round on the upper bounds c lowers
 abbrev pub lowered_in : List Limit → List ℕ → List ℕ
@@ -31,9 +32,13 @@ lowered_in ls c = differing 0 c (round ls c)
 unfoldable pub step_of : List Limit → List ℕ → List ℕ → Progress
 step_of ls lower c = step_from (lowest_of (first_below 0 lower (round ls c))) (length (lowered_in ls c))
 
-abbrev pub outcome_of : Verdict → Outcome
-outcome_of (unsatisfiable s n) = Unsatisfiable s n
-outcome_of (fixpoint n c) = Fixpoint n
+-- A set that is emptied, and the round
+abbrev pub emptied : ℕ → ℕ → refusal.Emptied
+emptied s n = record { set = s; round = n }
+
+abbrev pub outcome_of : Verdict → Result ℕ refusal.Emptied
+outcome_of (unsatisfiable s n) = Err (emptied s n)
+outcome_of (fixpoint n c) = Ok n
 
 -- How many rounds were made
 abbrev pub rounds_of : Verdict → ℕ
@@ -52,70 +57,82 @@ abbrev pub scratch_after : ℕ → List ℕ → List ℕ → List ℕ
 scratch_after zero before x = before
 scratch_after (suc n) before x = x
 
+-- The operands are linked
+pub record Linked_in (ls : List Limit) (old new : Links) : Type 0 where
+  pub last : new.last.now ≡ (links (length old.last.now) old.uses.now ls).last
+  pub uses : new.uses.now ≡ (links (length old.last.now) old.uses.now ls).uses.items
+
+-- They are as they were
+pub record Kept (old new : Links) : Type 0 where
+  pub last : new.last.now ≡ old.last.now
+  pub uses : new.uses.now ≡ old.uses.now
+
 -- The operands are linked behind the first round, if another follows
-abbrev pub LinksAfter : ℕ → List ℕ → ℕ → List ℕ → List ℕ → Type 0
-LinksAfter zero xs sets links links' = links' ≡ links
-LinksAfter (suc n) xs sets links links' = Linking xs sets (length xs) links links'
+abbrev pub LinksAfter : ℕ → List Limit → Links → Links → Type 0
+LinksAfter zero ls old new = Kept old new
+LinksAfter (suc n) ls old new = Linked_in ls old new
 
 -- Behind round n the operands are linked, if it is the first
-pub record Relinked (n : ℕ) (xs : List ℕ) (sets : ℕ) (links links' : List ℕ) : Type 0 where
-  pub made : n ≡ 1 → Linking xs sets (length xs) links links'
-  pub kept : (n ≡ 1 → ⊥) → links' ≡ links
+pub record Relinked (n : ℕ) (l : Limits) (old new : Links) : Type 0 where
+  pub made : n ≡ 1 → Linked_in (limits_of l) old new
+  pub kept : (n ≡ 1 → ⊥) → Kept old new
 
 -- The outcome where the rounds ended at a set, or at none
-abbrev pub end_of : Lowest → ℕ → Outcome
-end_of (At s) n = Unsatisfiable s n
-end_of Nowhere n = Fixpoint n
+abbrev pub end_of : Option ℕ → ℕ → Result ℕ refusal.Emptied
+end_of (Some s) n = Err (emptied s n)
+end_of None n = Ok n
 
 -- The first of these sets whose upper bound is below its lower bound
-unfoldable pub first_in : List ℕ → List ℕ → List ℕ → Option ℕ
-first_in lower c [] = none
-first_in lower c (s ∷ ss) = elim (ltb (get_or c s 0) (get_or lower s 0)) [ true ↦ some s | false ↦ first_in lower c ss ]
+abbrev pub first_in : List ℕ → List ℕ → List ℕ → Option ℕ
+first_in lower c ss = find (λ s. nat_lt (slice_index c s) (slice_index lower s)) ss
 
 -- What a run starts from: limits that are whole, as many lower as upper bounds, at most 208, the upper ones small
-pub record Bounds (xs lower upper : List ℕ) : Type 0 where
-  pub closed : Closed xs (length upper)
+pub record Bounds (l : Limits) (lower upper : List ℕ) : Type 0 where
+  pub closed : Closed (length upper) l
   pub paired : length lower ≡ length upper
   pub few : length upper ≤ 208
-  pub small : (s : ℕ) → get_or upper s 0 ≤ 4096
+  pub small : (s : ℕ) → slice_index upper s ≤ 4096
 
 -- Scratch for a round, and for the links
-pub record Scratch (xs upper next changed links : List ℕ) : Type 0 where
-  pub next_room : length upper ≡ length next
-  pub changed_room : length upper ≤ length changed
-  pub room : Room xs (length upper) links
+pub record Scratch (l : Limits) (r : Rounds) (k : Links) : Type 0 where
+  pub next_room : length r.upper.now ≡ length r.next.now
+  pub changed_room : length r.upper.now ≤ length r.changed.now
+  pub last_room : length k.last.now ≡ length r.upper.now
+  pub uses_room : operand_count (limits_of l) ≤ length k.uses.now
 
 -- What any round starts from
-pub record Standing (xs lower upper next changed : List ℕ) : Type 0 where
-  pub closed : Closed xs (length upper)
-  pub paired : length lower ≡ length upper
-  pub next_room : length upper ≡ length next
-  pub changed_room : length upper ≤ length changed
+pub record Standing (l : Limits) (lower : List ℕ) (r : Rounds) : Type 0 where
+  pub closed : Closed (length r.upper.now) l
+  pub paired : length lower ≡ length r.upper.now
+  pub next_room : length r.upper.now ≡ length r.next.now
+  pub changed_room : length r.upper.now ≤ length r.changed.now
 
 -- What a round by the links starts from besides: the last round lowered the first `count` sets of the list, and none is below its lower bound
-pub record Later (xs lower links changed : List ℕ) (count : ℕ) (upper next : List ℕ) : Type 0 where
-  pub due : Due xs links (take count changed) upper
-  pub within : count ≤ length changed
-  pub same : next ≡ upper
-  pub above : first_below 0 lower upper ≡ none
+pub record Later (l : Limits) (lower : List ℕ) (k : Links) (r : Rounds) (count : ℕ) : Type 0 where
+  pub due : Due (limits_of l) k.last.now k.uses.now (take count r.changed.now) r.upper.now
+  pub within : count ≤ length r.changed.now
+  pub same : r.next.now ≡ r.upper.now
+  pub above : first_below 0 lower r.upper.now ≡ none
 
 -- So does round n, unless it is the first
-pub record Continued (n : ℕ) (xs lower links changed : List ℕ) (count : ℕ) (upper next : List ℕ) : Type 0 where
-  pub later : (n ≡ 1 → ⊥) → Later xs lower links changed count upper next
+pub record Continued (n : ℕ) (l : Limits) (lower : List ℕ) (k : Links) (r : Rounds) (count : ℕ) : Type 0 where
+  pub later : (n ≡ 1 → ⊥) → Later l lower k r count
 
--- A round on `upper` came to r: the new upper bounds stand in both lists, and those lowered at the front of the third
-pub record Advanced (xs lower upper changed : List ℕ) (r : Progress) (upper' next' changed' : List ℕ) : Type 0 where
-  pub came : r ≡ step_of (decode xs) lower upper
-  pub stands : upper' ≡ round (decode xs) upper
-  pub same : next' ≡ round (decode xs) upper
-  pub listed : Wrote changed 0 (lowered_in (decode xs) upper) changed' (length (lowered_in (decode xs) upper))
+-- A round came to p: the new upper bounds stand in both lists, and those lowered at the front of the third
+pub record Advanced (l : Limits) (lower : List ℕ) (old : Rounds) (p : Progress) (new : Rounds) : Type 0 where
+  pub name : new.upper.ghost_name ≡ old.upper.ghost_name
+  pub came : p ≡ step_of (limits_of l) lower old.upper.now
+  pub stands : new.upper.now ≡ round (limits_of l) old.upper.now
+  pub same : new.next.now ≡ round (limits_of l) old.upper.now
+  pub listed : WroteAll old.changed.now (lowered_in (limits_of l) old.upper.now) new.changed.now (length (lowered_in (limits_of l) old.upper.now))
 
--- The rounds from `start` have led to `upper` with this outcome; what is lent has become the other lists
-pub record Ended (xs lower start changed links : List ℕ) (r : Outcome) (upper next changed' links' : List ℕ) : Type 0 where
+-- The rounds have ended with this outcome
+pub record Ended (l : Limits) (lower : List ℕ) (old : Rounds) (links₀ : Links) (r : Result ℕ refusal.Emptied) (new : Rounds) (links' : Links) : Type 0 where
   pub count : ℕ
-  pub counted : rounds_of (run (decode xs) lower start) ≡ suc count
-  pub outcome : r ≡ outcome_of (run (decode xs) lower start)
-  pub stands : upper ≡ upper_after (decode xs) start (suc count)
-  pub same : next ≡ upper_after (decode xs) start (suc count)
-  pub listed : changed' ≡ listed_after (decode xs) start changed (suc count)
-  pub linked : LinksAfter count xs (length start) links links'
+  pub counted : rounds_of (run (limits_of l) lower old.upper.now) ≡ suc count
+  pub name : new.upper.ghost_name ≡ old.upper.ghost_name
+  pub outcome : r ≡ outcome_of (run (limits_of l) lower old.upper.now)
+  pub stands : new.upper.now ≡ upper_after (limits_of l) old.upper.now (suc count)
+  pub same : new.next.now ≡ upper_after (limits_of l) old.upper.now (suc count)
+  pub listed : new.changed.now ≡ listed_after (limits_of l) old.upper.now old.changed.now (suc count)
+  pub linked : LinksAfter count (limits_of l) links₀ links'

@@ -1,15 +1,14 @@
 -- The predicates one after another: what was noted and what the predicates left tell come to all.
-use native.Mathlib.Omega.{arith}
-use Prim.Native.Nat.{ℕ, ◌+◌, ◌*◌, ◌-◌, ◌≤◌, ◌<◌}
+use Prim.Native.Nat.{ℕ, ◌+◌, ◌-◌, ◌≤◌, ◌<◌}
 use native.Mathlib.Numerals.{add-one}
-use mathlib.Core.Path.{◌≡◌, ap, ◌∙◌}
+use mathlib.Core.Path.{◌≡◌, refl}
 use mathlib.Core.Bool.{Bool}
 use mathlib.Core.List.{List}
-use lib.ListN.{length, get_or, drop}
+use lib.ListN.{get_or, drop}
 use Rattle.orm.specs.Constraints.{K5, K6, K9}
 use Rattle.faults.specs.Faults.{unless, lowered, faults_of}
 use Rattle.faults.specs.Passes.{pred_faults}
-use Rattle.faults.specs.Laws.Lowest.{length-lowered, lowered-then}
+use Rattle.faults.specs.Laws.Lowest.{lowered-then}
 use Rattle.table.specs.Positions.{pred_length, preds_in, type_count, pred_count, first_pred_at, diagram_of}
 use Rattle.table.specs.Laws.Walks.{preds_more, preds-none}
 use Rattle.columns.specs.declared.Rows.{Rows}
@@ -26,7 +25,7 @@ use Rattle.rows.proofs.Groups.{rows-held}
 
 pub pred-told : (t s : List ℕ) (pred n : ℕ) (r : Rows) (e e₁ e₂ : List ℕ) {e₃ : List ℕ} {a b c : Bool}
     → e₁ ≡ lowered (unless a 5 n) e → e₂ ≡ lowered (unless b 6 n) e₁ → e₃ ≡ lowered (unless c 9 n) e₂
-    → a ≡ K5 (pred_at t pred) (rows_held s r) → b ≡ K6 (pred_at t pred) (rows_held s r) → c ≡ K9 (pred_at t pred) (rows_held s r)
+    → a ≡ K5 (pred_at t pred) (rows_held r) → b ≡ K6 (pred_at t pred) (rows_held r) → c ≡ K9 (pred_at t pred) (rows_held r)
     → Noted t s r pred n e e₃
 unfolding pred_faults
 pred-told t s pred n r e e₁ e₂ x y z a b c = record { is = rw (lowered-then, lowered-then, ← a, ← b, ← c, ← x, ← y) z }
@@ -39,28 +38,24 @@ module _ (t s starts e₀ : List ℕ) where
     pub standing : Standing t s starts pred k left
     pub faults : lowered (faults_of (pred_faults (diagram_of t) (population_of t s)) own (preds_in left (drop pred t)) (rows_in (preds_in left (drop pred t)) (drop (get_or starts k 0) s))) e
         ≡ lowered (faults_of (pred_faults (diagram_of t) (population_of t s)) 1 (diagram_of t).preds (population_of t s).preds) e₀
-    pub long : length e ≡ 12
-    pub few : own + k + 2 * left ≤ 97
 
-  pub noting_start : {pred k left m : ℕ} → length e₀ ≡ 12 → Populated t s → Located t s starts → pred ≡ first_pred_at t → left ≡ pred_count t
-      → m ≡ type_count t → k ≡ m → left ≤ 32 → m ≤ 32 → Noting e₀ pred k 1 left
+  pub noting_start : {pred k left m : ℕ} → Populated t s → Located t s starts → pred ≡ first_pred_at t → left ≡ pred_count t
+      → m ≡ type_count t → k ≡ m → Noting e₀ pred k 1 left
   unfolding diagram_of population_at
-  noting_start {pred} {k} {left} h j l p q e g a b =
+  noting_start {pred} {k} {left} j l p q e g =
       let z : drop (get_or starts (type_count t) 0) s ≡ _ = starts-preds l in
-      record { standing = standing-start t s starts pred k left j l p q e g; faults = rw (p, q, g, e, z); long = h; few = omega arith }
+      record { standing = standing-start t s starts pred k left j l p q e g; faults = rw (p, q, g, e, z) }
 
   module _ (e : List ℕ) (pred k own left : ℕ) where
-    pub noting_more : {e' : List ℕ} (next at : ℕ) (r : Rows) → Noted t s r pred own e e' → RowsHere s at (pred_width (pred_at t pred)) r
-        → at ≡ get_or starts k 0 → Noting e pred k own left → 0 < left → next ≡ pred + pred_length (drop pred t)
-        → Noting e' next (k + 1) (own + 1) (left - 1)
+    pub noting_more : {e' : List ℕ} (r : Rows) {next k' own' left' : ℕ} → Noted t s r pred own e e'
+        → RowsHere s (get_or starts k 0) (pred_width (pred_at t pred)) r → Noting e pred k own left → 0 < left
+        → next ≡ pred + pred_length (drop pred t) → k' ≡ k + 1 → own' ≡ own + 1 → left' ≡ left - 1 → Noting e' next k' own' left'
     unfolding contents faults_of
-    noting_more next at r n a d i h q = record {
-      standing = standing-more t s starts pred k left i.standing h next q;
-      faults = rw (n.is, rows-held t s pred at r a, d, add-one, standing-next t s starts pred k left i.standing h, ← lowered-then)
+    noting_more r n a i h q ek eo el = rw (ek, eo, el) (record {
+      standing = standing-more t s starts pred k left i.standing h q refl refl;
+      faults = rw (n.is, rows-held t s pred (get_or starts k 0) r a, add-one, standing-next t s starts pred k left i.standing h, ← lowered-then)
           (rw (preds_more t pred left h q) at i.faults);
-      long = ap length n.is ∙ simp length-lowered i.long;
-      few = omega (arith, i.few);
-    }
+    })
 
     pub noting_end : Noting e pred k own left → left ≤ 0 → e ≡ lowered (faults_of (pred_faults (diagram_of t) (population_of t s)) 1 (diagram_of t).preds (population_of t s).preds) e₀
     unfolding faults_of contents lowered

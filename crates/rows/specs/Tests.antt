@@ -17,12 +17,12 @@ use Rattle.playing.specs.Places.{population_of, pred_at}
 use Rattle.rows.specs.declared.Group.{Group}
 
 -- The predicate at `pred` is in the table and has few roles, and the rows have a cell for each, which is there
-pub record PredRows (t s : List ℕ) (pred : ℕ) (rows : Rows) : Type 0 where
+pub record PredRows (t : List ℕ) (pred : ℕ) (rows : Rows) : Type 0 where
   pub inside : pred + pred_length (drop pred t) ≤ length t
   pub few : pred_width (pred_at t pred) ≤ 6
   pub width : rows.width ≡ pred_width (pred_at t pred)
-  pub start : rows.start ≤ length s
-  pub wide : Wide rows.width (rows_held s rows)
+  pub start : rows.start ≤ length rows.cells.now
+  pub wide : Wide rows.width (rows_held rows)
 
 -- `js` are the columns of the predicate's group with the number `g`, which has these limits, and then all its columns
 pub record GroupHere (p : Predicate) (g : ℕ) (f : Frequency) (js : List ℕ) (x : Group) : Type 0 where
@@ -42,8 +42,8 @@ group_in p rows g f = record { frequency = f; combinations = map (combination (r
 unfoldable pub group_test : Grouped → Bool
 group_test x = occurring x.frequency.fmin x.frequency.fmax x.combinations x.combinations
 
-abbrev pub group_kept : List ℕ → List ℕ → Rows → ℕ → ℕ → ℕ → Bool
-group_kept t s rows pred g line = group_test (group_in (pred_at t pred) (rows_held s rows) g (group_of (drop line t)))
+abbrev pub group_kept : List ℕ → Rows → ℕ → ℕ → ℕ → Bool
+group_kept t rows pred g line = group_test (group_in (pred_at t pred) (rows_held rows) g (group_of (drop line t)))
 
 -- K9 of some groups, the first of them with the number `g`
 unfoldable pub groups_test : Predicate → List (List ℕ) → ℕ → List Frequency → Bool
@@ -51,4 +51,4 @@ groups_test p rows g fs = all group_test (map_from (group_in p rows) g fs)
 
 -- Of the lowest numbers, `e` become `e'` by the faults of the predicate at `pred`, which has the number `own`
 pub record Noted (t s : List ℕ) (rows : Rows) (pred own : ℕ) (e e' : List ℕ) : Type 0 where
-  pub is : e' ≡ lowered (pred_faults (diagram_of t) (population_of t s) own (pred_at t pred) (rows_held s rows)) e
+  pub is : e' ≡ lowered (pred_faults (diagram_of t) (population_of t s) own (pred_at t pred) (rows_held rows)) e

@@ -1,74 +1,58 @@
-// How often what rows hold in some columns occurs: of rows in order, the runs of equal ones tell.
+// How often the keys of rows occur: of rows in order, the runs of equal ones tell.
 #![tactic(auto)]
 
 ghost use Rattle.std.specs.Prelude.{◌≡◌, ◌≤◌, ◌<◌, length, take};
 ghost use Rattle.columns.specs.Values.{keys_in, occurring};
-ghost use Rattle.columns.specs.Reach.{Keyed};
 ghost use Rattle.order.specs.Numbers.{Numbers};
 ghost use Rattle.order.specs.Parts.{Scratch};
 ghost use Rattle.runs.specs.Runs.{Run, Ready};
 
-use columns::Rows;
+use columns::Keys;
 
 // Where the run of equal rows ends that starts at place i of the list.
-fn run_end(s: &[u32], rows: Rows, js: &[u32], list: &[u32], i: usize) -> usize
-    requires numbers { Numbers s.now rows js.now list.now }
+fn run_end(keys: &Keys<'_>, list: &[u32], i: usize) -> usize
+    requires numbers { Numbers keys.now.rows list.now }
     requires i_in_bounds { i < length list.now }
-    ensures run { Run s.now rows js.now list.now i result }
+    ensures run { Run keys.now.rows keys.now.columns.now list.now i result }
     ensures lower_bound { i < result }
     ensures upper_bound { result ≤ length list.now }
 {
-    let first = order::row_at(s, rows, list[i]);
-    let mut j = i + 1;
-    while j < list.len() {
-        let next = order::row_at(s, rows, list[j]);
-        if !columns::same_key(s, rows.width, js, first, next) {
+    let first = list[i] as usize;
+    for j in i + 1..list.len() {
+        if !keys.same(first, list[j] as usize) {
             return j;
         }
-        j += 1;
     }
-    j
+    list.len()
 }
 
 // Puts the numbers of the rows in order at the front of the list, unless they are to be compared, and tells that: up to 16 rows are not worth
-// sorting, and for more than the list holds there is no room.
-fn order(s: &[u32], rows: Rows, js: &[u32], list: &mut [u32], spare: &mut [u32]) -> bool
-    requires keyed { Keyed s.now rows js.now }
-    requires scratch { Scratch list.old spare.old }
-    ensures { Ready s.now rows js.now list.new result }
+// sorting, and for more than the list holds there is no room. (A bool: the numbers stay in the list, which the caller lends on.)
+fn order(keys: &Keys<'_>, list: &mut [u32], spare: &mut [u32]) -> bool
+    requires { Scratch list.old spare.old }
+    ensures { Ready keys.now.rows keys.now.columns.now list.new result }
 {
-    let count = rows.count;
-    if count <= 16 {
+    let count = keys.rows.count;
+    if count <= 16 || list.len() < count {
         return true;
     }
-    if list.len() < count {
-        return true;
-    }
-    order::sort(s, rows, js, &mut list[..count], spare);
+    order::sort(keys, &mut list[..count], spare);
     false
 }
 
-// What each row holds in the columns `js`, `low` to `high` rows hold: by comparing, or by the runs of equal rows in the list.
-fn occurring_by(
-    s: &[u32],
-    rows: Rows,
-    js: &[u32],
-    low: u32,
-    high: u32,
-    list: &[u32],
-    compared: bool,
-) -> bool
-    requires { Ready s.now rows js.now list.now compared }
-    ensures { result ≡ occurring low high (keys_in s.now rows js.now) (keys_in s.now rows js.now) }
+// The key of each row is that of `low` to `high` rows: by comparing, or by the runs of equal rows in the list.
+fn occurring_by(keys: &Keys<'_>, low: u32, high: u32, list: &[u32], compared: bool) -> bool
+    requires { Ready keys.now.rows keys.now.columns.now list.now compared }
+    ensures { result ≡ occurring low high (keys_in keys.now.rows keys.now.columns.now) (keys_in keys.now.rows keys.now.columns.now) }
 {
     if compared {
-        return columns::occurring(s, rows, js, low, high);
+        return keys.occurring(low, high);
     }
-    let count = rows.count;
-    let numbers = &list[..count];
+    let numbers = &list[..keys.rows.count];
+    // from run to run: no range to go over
     let mut i = 0;
     while i < numbers.len() {
-        let end = run_end(s, rows, js, numbers, i);
+        let end = run_end(keys, numbers, i);
         if !columns::in_range(low, high, end - i) {
             return false;
         }
@@ -78,55 +62,46 @@ fn occurring_by(
 }
 
 // The same, by an order of its own where so many rows can break the limits; `list` and `spare` are scratch.
-pub fn occurring(
-    s: &[u32],
-    rows: Rows,
-    js: &[u32],
-    low: u32,
-    high: u32,
-    list: &mut [u32],
-    spare: &mut [u32],
-) -> bool
-    requires keyed { Keyed s.now rows js.now }
-    requires scratch { Scratch list.old spare.old }
-    ensures { result ≡ occurring low high (keys_in s.now rows js.now) (keys_in s.now rows js.now) }
+pub fn occurring(keys: &Keys<'_>, low: u32, high: u32, list: &mut [u32], spare: &mut [u32]) -> bool
+    requires { Scratch list.old spare.old }
+    ensures { result ≡ occurring low high (keys_in keys.now.rows keys.now.columns.now) (keys_in keys.now.rows keys.now.columns.now) }
 {
-    if low == 1 {
-        if rows.count <= columns::index(high) {
-            return true;
-        }
+    if low == 1 && keys.rows.count <= high as usize {
+        return true;
     }
-    let compared = order(s, rows, js, list, spare);
-    occurring_by(s, rows, js, low, high, list, compared)
+    let compared = order(keys, list, spare);
+    occurring_by(keys, low, high, list, compared)
 }
 
-// What one order of the rows tells: that they differ, and how often what they hold in the first few columns occurs.
-#[derive(Clone, Copy)]
+// What one order of the rows tells: that they differ, and how often what they hold in the first few columns occurs. Two
+// independent answers, so no Option of the second.
+#[derive(Clone, Copy, Debug, PartialEq, Eq)]
 pub struct Outcome {
     pub differ: bool,
     pub kept: bool,
 }
 
-// The rows differ in the columns `js`; and what each holds in the first n of these, `low` to `high` rows hold.
+// The keys differ; and what each row holds in the first n of their columns, `low` to `high` rows hold.
 pub fn rows_and_group(
-    s: &[u32],
-    rows: Rows,
-    js: &[u32],
+    keys: &Keys<'_>,
     n: usize,
     low: u32,
     high: u32,
     list: &mut [u32],
     spare: &mut [u32],
 ) -> Outcome
-    requires keyed { Keyed s.now rows js.now }
-    requires n_in_bounds { n ≤ length js.now }
+    requires n_in_bounds { n ≤ length keys.now.columns.now }
     requires scratch { Scratch list.old spare.old }
-    ensures differ_value { result.differ ≡ occurring 1 1 (keys_in s.now rows js.now) (keys_in s.now rows js.now) }
-    ensures kept_value { result.kept ≡ occurring low high (keys_in s.now rows (take n js.now)) (keys_in s.now rows (take n js.now)) }
+    ensures differ_value { result.differ ≡ occurring 1 1 (keys_in keys.now.rows keys.now.columns.now) (keys_in keys.now.rows keys.now.columns.now) }
+    ensures kept_value { result.kept ≡ occurring low high (keys_in keys.now.rows (take n keys.now.columns.now)) (keys_in keys.now.rows (take n keys.now.columns.now)) }
 {
-    let compared = order(s, rows, js, list, spare);
+    let compared = order(keys, list, spare);
+    let group = Keys {
+        rows: keys.rows,
+        columns: &keys.columns[..n],
+    };
     Outcome {
-        differ: occurring_by(s, rows, js, 1, 1, list, compared),
-        kept: occurring_by(s, rows, &js[..n], low, high, list, compared),
+        differ: occurring_by(keys, 1, 1, list, compared),
+        kept: occurring_by(&group, low, high, list, compared),
     }
 }

@@ -2,3 +2,5 @@
 pub mod Selects
 pub mod Types
 pub mod Players
+pub mod Upto
+pub mod Writes

@@ -4,22 +4,16 @@ ghost use Rattle.orm.specs.Diagram.{all_roles, plays, must_play};
 ghost use Rattle.orm.specs.Form.{type_of};
 ghost use Rattle.table.specs.Positions.{role_width, roles_in, diagram_of, Walkable};
 
-use crate::same;
-
 // Whether the type with this number plays one of the `count` roles from position q on.
 fn plays_one(t: &[u32], q: usize, count: u32, number: u32) -> bool
     requires walkable { Walkable t.now }
     requires count_in_bounds { q + role_width * count ≤ length t.now }
     ensures { result ≡ plays number (roles_in count (drop q t.now)) }
 {
-    let mut left = count;
-    let mut p = q;
-    while 0 < left {
-        if same(number, table::number(t, p, 0)) {
+    for i in 0..count {
+        if table::number(t, q + table::ROLE_WIDTH * i as usize, 0) == number {
             return true;
         }
-        p += table::ROLE_WIDTH;
-        left -= 1;
     }
     false
 }
@@ -29,15 +23,13 @@ pub fn plays(t: &[u32], number: u32) -> bool
     requires { Walkable t.now }
     ensures { result ≡ plays number (all_roles (diagram_of t.now)) }
 {
-    let mut left = table::pred_count(t);
     let mut q = table::first_pred(t);
-    while 0 < left {
+    for _ in 0..table::pred_count(t) {
         let count = table::number(t, q, 2);
         if plays_one(t, table::roles_at(t, q), count, number) {
             return true;
         }
         q = table::next_pred(t, q);
-        left -= 1;
     }
     false
 }
@@ -49,11 +41,7 @@ pub fn must_play(t: &[u32], q: usize, number: u32, playing: bool) -> bool
     requires playing_value { playing ≡ plays number (all_roles (diagram_of t.now)) }
     ensures { result ≡ must_play (diagram_of t.now) number (type_of (drop q t.now)) }
 {
-    if table::field(t, q, 5) == 1 {
-        return false;
-    }
-    if table::field(t, q, 4) != 0 {
-        return playing;
-    }
-    true
+    let independent = table::field(t, q, 5) == 1;
+    let root = table::field(t, q, 4) == 0;
+    !independent && (root || playing)
 }

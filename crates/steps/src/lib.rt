@@ -1,60 +1,35 @@
-// Single limits by their numbers, from 0: how many there are, where one starts, and whether any lowers a
-// size. Limits stand in a slice of numbers, as specs/Encoding.antt of lowering says.
+// Single limits by their numbers, from 0: how many there are, which one has a number, and whether any lowers
+// a size.
 #![tactic(auto)]
 
-ghost use Rattle.std.specs.Prelude.{◌≡◌, length};
+ghost use Rattle.std.specs.Prelude.{◌≡◌, length, slice_get};
 ghost use Rattle.fixpoint.specs.Limits.{any_lowers};
-ghost use Rattle.lowering.specs.Encoding.{decode};
+ghost use Rattle.lowering.specs.Coded.{limits_of};
 ghost use Rattle.lowering.specs.Closed.{Closed};
-ghost use Rattle.steps.specs.Numbered.{Finds};
+
+use lowering::{Limit, Limits};
 
 // How many limits there are.
-pub fn count(limits: &[u32]) -> usize
-    ensures { result ≡ length (decode limits.now) }
+pub fn count(limits: &Limits<'_>) -> usize
+    ensures { result ≡ length (limits_of limits.now) }
 {
-    let mut n = 0;
-    let mut at = 0;
-    while at + 4 <= limits.len() {
-        at = at + 4 + lowering::index(limits[at + 3]);
-        n += 1;
-    }
-    n
+    limits.limits.len()
 }
 
-// Where a limit starts, if there is one with the number.
-#[derive(Clone, Copy)]
-pub enum Found {
-    At { start: usize },
-    Past,
-}
-
-// Where the limit with this number starts.
-pub fn find(limits: &[u32], number: usize) -> Found
-    ensures { Finds limits.now number result }
+// The limit with this number, if there is one.
+pub fn find(limits: &Limits<'_>, number: usize) -> Option<Limit>
+    ensures { result ≡ slice_get limits.now.limits.now number }
 {
-    let mut i = 0;
-    let mut at = 0;
-    while at + 4 <= limits.len() {
-        if i == number {
-            return Found::At { start: at };
-        }
-        at = at + 4 + lowering::index(limits[at + 3]);
-        i += 1;
-    }
-    Found::Past
+    limits.limits.get(number).copied()
 }
 
 // Whether any limit lowers a size.
-pub fn any_lowers(limits: &[u32], sizes: &[u32]) -> bool
-    requires { Closed limits.now (length sizes.now) }
-    ensures { result ≡ any_lowers (decode limits.now) sizes.now }
+pub fn any_lowers(limits: &Limits<'_>, sizes: &[u32]) -> bool
+    requires { Closed (length sizes.now) limits.now }
+    ensures { result ≡ any_lowers (limits_of limits.now) sizes.now }
 {
-    let mut at = 0;
-    while at + 4 <= limits.len() {
-        if lowering::lowers_at(limits, at, sizes) {
-            return true;
-        }
-        at = lowering::end_of(limits, at);
-    }
-    false
+    limits
+        .limits
+        .iter()
+        .any(|limit| lowering::lowers(*limit, limits.operands, sizes))
 }

@@ -1,5 +1,5 @@
 -- The climbs to the root and to the nearest type with a range, a step at a time: what is left of the climb comes to the whole.
-use Prim.Native.Nat.{ℕ, zero, suc, ◌-◌, ◌≤◌, ◌<◌}
+use Prim.Native.Nat.{ℕ, zero, suc, ◌+◌, ◌-◌, ◌≤◌, ◌<◌}
 use native.Mathlib.Omega.{arith}
 use mathlib.Core.Path.{◌≡◌, refl, sym, ap, ◌∙◌}
 use mathlib.Core.Bool.{Bool, true, false}
@@ -27,32 +27,33 @@ module _ (t : List ℕ) (count : ℕ) where
         let same : k ≡ suc k - 1 = omega arith in
         rw (e, climb) (ap (λ (m : ℕ). elim b as (λ _. ℕ) [ true ↦ x | false ↦ climb ends types m (index (super_at types x)) ]) same)
 
-    here : (k x : ℕ) {r : ℕ} → climb ends types k x ≡ r → 0 < k → ends x ≡ true → x ≡ r
-    here k x w h e = sym (split k x true h e) ∙ w
+    module _ (a i x : ℕ) {r : ℕ} (w : climb ends types (a - i) x ≡ r) where
+      here : i < a → ends x ≡ true → x ≡ r
+      here h e = sym (split (a - i) x true (omega arith) e) ∙ w
 
-    next : (k x : ℕ) {r above : ℕ} → climb ends types k x ≡ r → 0 < k → ends x ≡ false → above ≡ entry_at t count x 4
-        → climb ends types (k - 1) (index above) ≡ r
-    next k x w h e ea = rw (ea, super-is t count x) (sym (split k x false h e) ∙ w)
+      next : {above : ℕ} → i < a → ends x ≡ false → above ≡ entry_at t count x 4 → climb ends types (a - (i + 1)) (index above) ≡ r
+      next h e ea =
+          let k : a - (i + 1) ≡ a - i - 1 = omega arith in
+          rw (k, ea, super-is t count x) (sym (split (a - i) x false (omega arith) e) ∙ w)
 
-    pub climb-end : (k x : ℕ) {r : ℕ} → climb ends types k x ≡ r → k ≤ 0 → x ≡ r
-    unfolding climb
-    climb-end zero x w h = w
-    climb-end (suc k) x w h = absurd (omega arith)
+      pub climb-end : a ≤ i → x ≡ r
+      unfolding climb
+      climb-end h = let z : a - i ≡ 0 = omega arith in rw z at w
 
   -- ---- to the root
 
-  pub root-start : (a : ℕ) → climb (is_root_at types) types a a ≡ root types a
+  pub root-start : (a : ℕ) → climb (is_root_at types) types (a - 0) a ≡ root types a
   unfolding root
-  root-start a = refl
+  root-start a = let z : a - 0 ≡ a = omega arith in rw z refl
 
-  module _ (k x : ℕ) {r : ℕ} (w : climb (is_root_at types) types k x ≡ r) {above : ℕ} (h : 0 < k) (e : above ≡ entry_at t count x 4) where
+  module _ (a i x : ℕ) {r : ℕ} (w : climb (is_root_at types) types (a - i) x ≡ r) {above : ℕ} (h : i < a) (e : above ≡ entry_at t count x 4) where
     pub root-here : above ≡ 0 → x ≡ r
     unfolding is_root_at
-    root-here z = here (is_root_at types) k x w h (eq-eqb (super_at types x) 0 (sym (e ∙ super-is t count x) ∙ z))
+    root-here z = here (is_root_at types) a i x w h (eq-eqb (super_at types x) 0 (sym (e ∙ super-is t count x) ∙ z))
 
-    pub root-next : (above ≡ 0 → ⊥) → climb (is_root_at types) types (k - 1) (above - 1) ≡ r
+    pub root-next : (above ≡ 0 → ⊥) → climb (is_root_at types) types (a - (i + 1)) (above - 1) ≡ r
     unfolding is_root_at
-    root-next n = next (is_root_at types) k x w h (ne_eqb (super_at types x) 0 (λ z. n (e ∙ super-is t count x ∙ z))) e
+    root-next n = next (is_root_at types) a i x w h (ne_eqb (super_at types x) 0 (λ z. n (e ∙ super-is t count x ∙ z))) e
 
   pub first-value-is : (a : ℕ) {x r : ℕ} → x ≡ root types a → r ≡ entry_at t count x 2 → r ≡ first_value types a
   unfolding first_value
@@ -60,16 +61,16 @@ module _ (t : List ℕ) (count : ℕ) where
 
   -- ---- to the nearest type with a range
 
-  pub nearest-start : (a : ℕ) → climb (has_range_at types) types a a ≡ nearest types a
+  pub nearest-start : (a : ℕ) → climb (has_range_at types) types (a - 0) a ≡ nearest types a
   unfolding nearest
-  nearest-start a = refl
+  nearest-start a = let z : a - 0 ≡ a = omega arith in rw z refl
 
-  module _ (k x : ℕ) {r : ℕ} (w : climb (has_range_at types) types k x ≡ r) (h : 0 < k) {b : Bool} (e : b ≡ has_range_at types x) where
+  module _ (a i x : ℕ) {r : ℕ} (w : climb (has_range_at types) types (a - i) x ≡ r) (h : i < a) {b : Bool} (e : b ≡ has_range_at types x) where
     pub nearest-here : b ≡ true → x ≡ r
-    nearest-here z = here (has_range_at types) k x w h (sym e ∙ z)
+    nearest-here z = here (has_range_at types) a i x w h (sym e ∙ z)
 
-    pub nearest-next : {above y : ℕ} → b ≡ false → above ≡ entry_at t count x 4 → y ≡ index above → climb (has_range_at types) types (k - 1) y ≡ r
-    nearest-next z ea ey = rw ey (next (has_range_at types) k x w h (sym e ∙ z) ea)
+    pub nearest-next : {above y : ℕ} → b ≡ false → above ≡ entry_at t count x 4 → y ≡ index above → climb (has_range_at types) types (a - (i + 1)) y ≡ r
+    nearest-next z ea ey = rw ey (next (has_range_at types) a i x w h (sym e ∙ z) ea)
 
   pub last-value-is : (a : ℕ) {x r : ℕ} → x ≡ nearest types a → r ≡ entry_at t count x 3 → r ≡ last_value types a
   unfolding last_value

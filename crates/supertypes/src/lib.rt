@@ -14,7 +14,7 @@ ghost use Rattle.supertypes.specs.Entries.{entry_at};
 pub fn index(number: u32) -> u32
     ensures { result ≡ index number }
 {
-    if number == 0 { 0 } else { number - 1 }
+    number.saturating_sub(1)
 }
 
 // Where the line of the type at an index starts.
@@ -35,6 +35,7 @@ fn entry(t: &[u32], count: u32, a: u32, i: usize) -> u32
 }
 
 // Whether the type whose line starts at `at` gives FIRST and LAST: a root does, and a subtype that does not write 0,0.
+// (Early returns: behind `||` the goals stay open.)
 pub fn has_range(t: &[u32], at: usize) -> bool
     ensures { result ≡ has_range (type_of (drop at t.now)) }
 {
@@ -47,7 +48,7 @@ pub fn has_range(t: &[u32], at: usize) -> bool
     buffer::item(t, at, 3) != 0
 }
 
-// The same of the type at an index.
+// The same of the type at an index (by an early return, as above).
 fn has_range_at(t: &[u32], count: u32, a: u32) -> bool
     ensures { result ≡ has_range_at (types_in count (drop 2 t.now)) a }
 {
@@ -61,15 +62,13 @@ fn has_range_at(t: &[u32], count: u32, a: u32) -> bool
 fn root(t: &[u32], count: u32, a: u32) -> u32
     ensures { result ≡ root (types_in count (drop 2 t.now)) a }
 {
-    let mut left = a;
     let mut x = a;
-    while 0 < left {
+    for _ in 0..a {
         let above = entry(t, count, x, 4);
         if above == 0 {
             return x;
         }
         x = above - 1;
-        left -= 1;
     }
     x
 }
@@ -78,14 +77,12 @@ fn root(t: &[u32], count: u32, a: u32) -> u32
 fn nearest(t: &[u32], count: u32, a: u32) -> u32
     ensures { result ≡ nearest (types_in count (drop 2 t.now)) a }
 {
-    let mut left = a;
     let mut x = a;
-    while 0 < left {
+    for _ in 0..a {
         if has_range_at(t, count, x) {
             return x;
         }
         x = index(entry(t, count, x, 4));
-        left -= 1;
     }
     x
 }

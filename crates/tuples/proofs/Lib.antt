@@ -1,3 +1,2 @@
 pub mod Numbers
-pub mod Prepared
-pub mod Sided
+pub mod Writes

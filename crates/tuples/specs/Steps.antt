@@ -1,44 +1,39 @@
--- A pairing prepared for its rows: three numbers for each set, and the row that they give.
-use Rattle.std.specs.Prelude.{ℕ, zero, suc, ◌+◌, ◌*◌, ◌/◌, ◌%◌, min, ◌≤◌, ◌<◌, ◌≡◌, Bool, true, List, [], ◌∷◌, ◌++◌, length, get_or, drop}
+-- A pairing prepared for its rows: a step for each set, and the row that they give.
+use Rattle.std.specs.Prelude.{ℕ, ◌+◌, ◌*◌, ◌/◌, ◌%◌, min, ◌≤◌, List, [], ◌∷◌, get_or}
 use Rattle.pairing.specs.Pairing.{lcm}
-
--- The first `k` numbers of a list, 0 for each that is not there
-unfoldable pub padded : ℕ → List ℕ → List ℕ
-padded zero s = []
-padded (suc k) s = get_or s 0 0 ∷ padded k (drop 1 s)
+use Rattle.tuples.specs.declared.Step.{Step}
 
 -- For each further set: how many tuples it is paired with, the least common multiple of that count and its size, and its size
-unfoldable pub steps_from : ℕ → ℕ → List ℕ → List ℕ
+unfoldable pub steps_from : ℕ → ℕ → List ℕ → List Step
 steps_from want n [] = []
-steps_from want n (t ∷ ts) = n ∷ lcm n t ∷ t ∷ steps_from want (min want (n * t)) ts
+steps_from want n (t ∷ ts) = record { tuples = n; common = lcm n t; size = t } ∷ steps_from want (min want (n * t)) ts
 
 -- The first set 'is taken as it is': nothing is read of its step
-unfoldable pub steps : ℕ → List ℕ → List ℕ
+unfoldable pub steps : ℕ → List ℕ → List Step
 steps want [] = []
-steps want (s ∷ ss) = 0 ∷ 0 ∷ 0 ∷ steps_from want s ss
+steps want (s ∷ ss) = record { tuples = 0; common = 0; size = 0 } ∷ steps_from want s ss
 
--- Row `i` at step `j`: the index in the step's set, and the row's index in the tuples before
-unfoldable pub entry_at : List ℕ → ℕ → ℕ → ℕ
-entry_at s j i = (i + i / get_or s (3 * j + 1) 0) % get_or s (3 * j + 2) 0
+-- Of row `i` at a step: its index in the step's set, and its row among the tuples before
+abbrev pub entry_of : Step → ℕ → ℕ
+entry_of s i = (i + i / s.common) % s.size
 
-unfoldable pub index_before : List ℕ → ℕ → ℕ → ℕ
-index_before s j i = i % get_or s (3 * j) 0
+abbrev pub before_of : Step → ℕ → ℕ
+before_of s i = i % s.tuples
 
--- Row `i` of the first `k` steps
-unfoldable pub tuple_in : List ℕ → ℕ → ℕ → List ℕ
-tuple_in s zero i = []
-tuple_in s (suc zero) i = i ∷ []
-tuple_in s (suc (suc j)) i = tuple_in s (suc j) (index_before s (suc j) i) ++ (entry_at s (suc j) i ∷ [])
+-- The row before all of these steps, and the indices at them, of row `i` behind them
+unfoldable pub first_row : List Step → ℕ → ℕ
+first_row [] i = i
+first_row (s ∷ ss) i = before_of s (first_row ss i)
 
--- What a test says that holds only of a number below all three of a step
-pub record Below (x n common size : ℕ) (b : Bool) : Type 0 where
-  pub is : b ≡ true → (x < n) × (x < common) × (x < size)
+unfoldable pub entries : List Step → ℕ → List ℕ
+entries [] i = []
+entries (s ∷ ss) i = entry_of s (first_row ss i) ∷ entries ss i
+
+-- Row `i` of a pairing with these steps
+unfoldable pub tuple_of : List Step → ℕ → List ℕ
+tuple_of [] i = []
+tuple_of (s ∷ ss) i = first_row ss i ∷ entries ss i
 
 -- No number is above 4096
 pub record Small (xs : List ℕ) : Type 0 where
   pub at : (k : ℕ) → get_or xs k 0 ≤ 4096
-
--- The steps of `count` sets stand from `at` on, and there is room for a row of them from `to` on
-pub record Spanned (steps : List ℕ) (at count : ℕ) (out : List ℕ) (to : ℕ) : Type 0 where
-  pub there : at + 3 * count ≤ length steps
-  pub room : to + count ≤ length out

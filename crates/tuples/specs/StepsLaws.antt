@@ -1,124 +1,90 @@
 -- The row of a prepared pairing is the row of the pairing.
-use Prim.Native.Nat.{ℕ, zero, suc, ◌+◌, ◌*◌, ◌/◌, ◌%◌, ◌-◌, min, ◌≤◌, ◌<◌}
-use native.Mathlib.Omega.{arith}
-use Rattle.std.proofs.Math.Nat.{mod-le, add-zero}
-use Rattle.std.proofs.Common.{div-le_self, ◌∙◌, get_or-append-add, drop-drop}
-use Rattle.std.specs.Prelude.{◌≡◌, get_or, drop}
-use Rattle.std.proofs.Math.Path.{refl, ap, ap₂}
-use mathlib.Core.List.{List, [], ◌∷◌, ◌++◌, append_assoc, append-nil}
-use Rattle.std.proofs.Math.ListN.{length, length-append}
+use Rattle.std.specs.Prelude.{ℕ, suc, ◌+◌, ◌*◌, ◌/◌, ◌%◌, min, ◌-◌, ◌≤◌, ◌<◌, ◌≡◌, refl, List, [], ◌∷◌, ◌++◌, length, get_or, take, drop, fold}
+use Rattle.std.proofs.Common.{arith, ap, sym, ◌∙◌, append-nil, append_assoc}
+use Rattle.std.proofs.Math.Nat.{mod-le}
+use Rattle.std.proofs.Common.{div-le_self, length-drop, get_or-drop}
+use Rattle.std.proofs.Math.Seq.{take_all}
 use Rattle.pairing.specs.Pairing.{lcm, left_of, right_of, Tuples, single, paired_with, paired_with_all, tuples}
-use Rattle.tuples.specs.Steps.{padded, steps_from, steps, entry_at, index_before, tuple_in}
-
-pub length-tuple_in : (s : List ℕ) (k i : ℕ) → length (tuple_in s k i) ≡ k
-unfolding tuple_in
-length-tuple_in s zero i = refl
-length-tuple_in s (suc zero) i = refl
-length-tuple_in s (suc (suc k)) i = length-append (tuple_in s (suc k) (index_before s (suc k) i)) (entry_at s (suc k) i ∷ []) ∙ omega
-    (arith, length-tuple_in s (suc k) (index_before s (suc k) i))
-
--- The first step and `m` further ones, whatever follows them, give the rows of `r`
-record Gives (pre : List ℕ) (m : ℕ) (r : Tuples) : Type 0 where
-  long : length pre ≡ 3 * suc m
-  rows : (rest : List ℕ) (i : ℕ) → tuple_in (pre ++ rest) (suc m) i ≡ r.row i
-
-module _ (pre : List ℕ) (m : ℕ) (long : length pre ≡ 3 * m) (a b t : ℕ) (rest : List ℕ) where
-  abbrev here : List ℕ
-  here = pre ++ (a ∷ b ∷ t ∷ rest)
-
-  at-step : (j : ℕ) → get_or here (3 * m + j) 0 ≡ get_or (a ∷ b ∷ t ∷ rest) j 0
-  at-step j = rw (← long) (get_or-append-add pre (a ∷ b ∷ t ∷ rest) j 0)
-
-  index-here : (i : ℕ) → index_before here m i ≡ i % a
-  unfolding index_before
-  index-here i = ap (λ (n : ℕ). i % n) (rw add-zero at (at-step 0))
-
-  entry_here : (i : ℕ) → entry_at here m i ≡ (i + i / b) % t
-  unfolding entry_at
-  entry_here i = ap₂ (λ (x y : ℕ). (i + i / x) % y) (at-step 1) (at-step 2)
+use Rattle.tuples.specs.Steps.{steps_from, steps, entry_of, first_row, entries, tuple_of, Small}
+use Rattle.tuples.specs.declared.Step.{Step}
 
 module _ (want : ℕ) where
-  gives_more : (pre : List ℕ) (m : ℕ) (r : Tuples) (t : ℕ) → Gives pre m r
-      → Gives (pre ++ (r.count ∷ lcm r.count t ∷ t ∷ [])) (suc m) (paired_with want r t)
-  unfolding tuple_in paired_with left_of right_of
-  gives_more pre m r t g = record { long = length-append pre step ∙ omega (arith, g.long); rows = rows }
-    where
-      step : List ℕ
-      step = r.count ∷ lcm r.count t ∷ t ∷ []
+  -- how many tuples there are behind sets of these sizes, paired with `n` tuples
+  abbrev pub behind : ℕ → List ℕ → ℕ
+  behind n ts = fold (λ m t. min want (m * t)) n ts
 
-      rows : (rest : List ℕ) (i : ℕ) → tuple_in (pre ++ step ++ rest) (suc (suc m)) i ≡ (paired_with want r t).row i
-      rows rest i =
-          ap (λ (s : List ℕ). tuple_in s (suc (suc m)) i) (append_assoc pre step rest)
-          ∙ (ap₂ {C = List ℕ} (λ l x. l ++ (x ∷ []))
-          (g.rows (step ++ rest) (index_before (pre ++ (step ++ rest)) (suc m) i) ∙ ap r.row
-          (index-here pre (suc m) g.long r.count (lcm r.count t) t rest i))
-          (entry_here pre (suc m) g.long r.count (lcm r.count t) t rest i))
+  abbrev pub step : ℕ → ℕ → Step
+  step n t = record { tuples = n; common = lcm n t; size = t }
 
-  gives_all : (pre : List ℕ) (m : ℕ) (r : Tuples) (ts : List ℕ) → Gives pre m r
-      → Gives (pre ++ steps_from want r.count ts) (m + length ts) (paired_with_all want r ts)
-  unfolding steps_from paired_with_all
-  gives_all pre m r [] g = rw (append-nil, add-zero) g
-  gives_all pre m r (t ∷ ts) g =
-      let step : List ℕ = r.count ∷ lcm r.count t ∷ t ∷ [] in
-      let more = gives_all (pre ++ step) (suc m) (paired_with want r t) ts (gives_more pre m r t g) in
-      let count : (paired_with want r t).count ≡ min want (r.count * t) = unfold paired_with in refl in
-      let e : m + suc (length ts) ≡ suc m + length ts = omega arith in
-      rw (e, ← append_assoc pre step (steps_from want (min want (r.count * t)) ts), ← count) more
+  pub steps_from_none : (n : ℕ) → steps_from want n [] ≡ []
+  unfolding steps_from
+  steps_from_none n = refl
 
-  first_gives : (s : ℕ) → Gives (0 ∷ 0 ∷ 0 ∷ []) 0 (single s)
-  unfolding tuple_in single
-  first_gives s = record { long = refl; rows = λ rest i. refl }
+  pub steps_from_more : (n : ℕ) (ts : List ℕ) (t : ℕ) → steps_from want n (ts ++ t ∷ []) ≡ steps_from want n ts ++ step (behind n ts) t ∷ []
+  unfolding steps_from
+  steps_from_more n [] t = refl
+  steps_from_more n (s ∷ ts) t = ap (λ l. step n s ∷ l) (steps_from_more (min want (n * s)) ts t)
 
--- The row of a prepared pairing, whatever stands behind its steps, is the row of the pairing
-pub steps-row : (want : ℕ) (sizes rest : List ℕ) (i : ℕ) → tuple_in (steps want sizes ++ rest) (length sizes) i ≡ (tuples want sizes).row i
-unfolding steps tuples single
-steps-row want [] rest i = unfold tuple_in in refl
-steps-row want (s ∷ ss) rest i =
-    let e : length ss ≡ 0 + length ss = omega arith in
-    rw e ((gives_all want (0 ∷ 0 ∷ 0 ∷ []) 0 (single s) ss (first_gives want s)).rows rest i)
+  length-steps_from : (n : ℕ) (ts : List ℕ) → length (steps_from want n ts) ≡ length ts
+  unfolding steps_from
+  length-steps_from n [] = refl
+  length-steps_from n (t ∷ ts) = ap suc (length-steps_from (min want (n * t)) ts)
 
--- ---- what a turn of a loop over the sizes, or over the steps, leaves
+  pub length-steps : (ts : List ℕ) → length (steps want ts) ≡ length ts
+  unfolding steps
+  length-steps [] = refl
+  length-steps (t ∷ ts) = ap suc (length-steps_from t ts)
 
-pub padded-more : (s : List ℕ) (p n : ℕ) → 0 < n → padded n (drop p s) ≡ get_or (drop p s) 0 0 ∷ padded (n - 1) (drop (p + 1) s)
-unfolding padded
-padded-more s p zero h = absurd (omega arith)
-padded-more s p (suc n) h =
-    let e : n ≡ suc n - 1 = omega arith in
-    ap₂ {C = List ℕ} (λ m r. get_or (drop p s) 0 0 ∷ padded m r) e (drop-drop 1 p s)
+  pub steps_none : (sizes : List ℕ) → length sizes ≡ 0 → steps want sizes ≡ []
+  unfolding steps
+  steps_none [] h = refl
+  steps_none (s ∷ ss) h = absurd (omega arith)
 
-pub padded-none : (n : ℕ) (s : List ℕ) → n ≤ 0 → padded n s ≡ []
-unfolding padded
-padded-none zero s h = refl
-padded-none (suc n) s h = absurd (omega arith)
+  pub steps_first : (sizes : List ℕ) → 0 < length sizes → steps want sizes
+      ≡ record { tuples = 0; common = 0; size = 0 } ∷ steps_from want (get_or sizes 0 0) (take (length sizes - 1) (drop 1 sizes))
+  unfolding steps
+  steps_first [] h = absurd (omega arith)
+  steps_first (s ∷ ss) h =
+      let e : length ss ≡ suc (length ss) - 1 = omega arith in
+      ap (λ l. record { tuples = 0; common = 0; size = 0 } ∷ steps_from want s l) (sym (take_all (suc (length ss) - 1) ss (omega arith)))
 
--- The first numbers of a list with others behind it are the list
-pub padded-front : (xs ys : List ℕ) → padded (length xs) (xs ++ ys) ≡ xs
-unfolding padded
-padded-front [] ys = refl
-padded-front (x ∷ xs) ys = ap {B = List ℕ} (λ l. x ∷ l) (padded-front xs ys)
+  paired-row : (r : Tuples) (ts : List ℕ) (i : ℕ)
+      → (paired_with_all want r ts).row i ≡ r.row (first_row (steps_from want r.count ts) i) ++ entries (steps_from want r.count ts) i
+  unfolding paired_with_all paired_with steps_from first_row entries left_of right_of
+  paired-row r [] i = sym (append-nil (r.row i))
+  paired-row r (t ∷ ts) i =
+      let rest : List Step = steps_from want (min want (r.count * t)) ts in
+      let j : ℕ = first_row rest i in
+      paired-row (paired_with want r t) ts i
+      ∙ append_assoc (r.row (j % r.count)) (((j + j / lcm r.count t) % t) ∷ []) (entries rest i)
 
-pub tuple_more : (s : List ℕ) (j i : ℕ) → 1 < j → tuple_in s j i ≡ tuple_in s (j - 1) (index_before s (j - 1) i) ++ (entry_at s (j - 1) i ∷ [])
-unfolding tuple_in
-tuple_more s zero i h = absurd (omega arith)
-tuple_more s (suc zero) i h = absurd (omega arith)
-tuple_more s (suc (suc j)) i h = let e : suc (suc j) - 1 ≡ suc j = omega arith in rw e
+  pub steps-row : (sizes : List ℕ) (i : ℕ) → tuple_of (steps want sizes) i ≡ (tuples want sizes).row i
+  unfolding steps tuples single tuple_of
+  steps-row [] i = refl
+  steps-row (s ∷ ss) i = sym (paired-row (single s) ss i)
 
-pub tuple_first : (s : List ℕ) (j i : ℕ) → 1 ≤ j → j ≤ 1 → tuple_in s j i ≡ i ∷ []
-unfolding tuple_in
-tuple_first s zero i h k = absurd (omega arith)
-tuple_first s (suc zero) i h k = refl
-tuple_first s (suc (suc j)) i h k = absurd (omega arith)
+length-entries : (s : List Step) (i : ℕ) → length (entries s i) ≡ length s
+unfolding entries
+length-entries [] i = refl
+length-entries (a ∷ s) i = ap suc (length-entries s i)
 
-pub tuple_none : (s : List ℕ) (j i : ℕ) → j ≡ 0 → tuple_in s j i ≡ []
-unfolding tuple_in
-tuple_none s zero i h = refl
-tuple_none s (suc j) i h = absurd (omega arith)
+pub length-tuple_of : (s : List Step) (i : ℕ) → length (tuple_of s i) ≡ length s
+unfolding tuple_of
+length-tuple_of [] i = refl
+length-tuple_of (a ∷ s) i = ap suc (length-entries s i)
+
+pub small_rest : (sizes : List ℕ) → Small sizes → Small (take (length sizes - 1) (drop 1 sizes))
+small_rest sizes h = record {
+  at = λ k.
+      let all : take (length sizes - 1) (drop 1 sizes) ≡ drop 1 sizes = take_all (length sizes - 1) (drop 1 sizes) (omega (arith, length-drop 1 sizes)) in
+      rw (all, get_or-drop 1 sizes k 0) (h.at (1 + k));
+}
 
 -- An index is at most twice the row's
-pub entry-small : (s : List ℕ) (j i : ℕ) → entry_at s j i ≤ 2 * i
-unfolding entry_at
-entry-small s j i = omega (arith, mod-le (i + i / get_or s (3 * j + 1) 0) (get_or s (3 * j + 2) 0), div-le_self i (get_or s (3 * j + 1) 0))
+pub entry-small : (s : Step) (i : ℕ) → entry_of s i ≤ 2 * i
+entry-small s i = omega (arith, mod-le (i + i / s.common) s.size, div-le_self i s.common)
 
-pub index-small : (s : List ℕ) (j i : ℕ) → index_before s j i ≤ i
-unfolding index_before
-index-small s j i = mod-le i (get_or s (3 * j) 0)
+pub first_row-small : (s : List Step) (i : ℕ) → first_row s i ≤ i
+unfolding first_row
+first_row-small [] i = omega arith
+first_row-small (a ∷ s) i = omega (arith, mod-le (first_row s i) a.tuples, first_row-small s i)

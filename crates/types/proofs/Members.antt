@@ -20,9 +20,8 @@ use Rattle.sorting.specs.Order.{sorted}
 use Rattle.sorting.specs.Rising.{rising, Rising}
 use Rattle.sorting.proofs.Rising.{rising-sorted}
 use Rattle.table.specs.Positions.{diagram_of}
-use Rattle.columns.specs.declared.Column.{Column}
+use Rattle.columns.specs.declared.column.Column.{Column}
 use Rattle.columns.specs.Values.{values_in, length-spaced}
-use Rattle.columns.specs.Reach.{Reached}
 use Rattle.order.specs.Parts.{part-is}
 use Rattle.lookup.specs.Stamps.{is_set, all_met, met_start}
 use Rattle.lookup.specs.Counts.{Fresh, fresh_start}
@@ -39,7 +38,7 @@ module _ (t s : List ℕ) (number line at n : ℕ) (ws e : List ℕ) {v : ℕ} (
   unfolding subtype_faults given lowered
   below-not h = rw (subtype_faults, ← f, ne_eqb v number h)
 
-  pub below-is : {b : Bool} {e' : List ℕ} (c : Column) → v ≡ number → values_in s c ≡ members_at (drop at s) → b ≡ within eqb (values_in s c) ws
+  pub below-is : {b : Bool} {e' : List ℕ} (c : Column) → v ≡ number → values_in c ≡ members_at (drop at s) → b ≡ within eqb (values_in c) ws
       → e' ≡ lowered (unless b 4 n) e → e' ≡ lowered (subtype_faults number ws n (type_of (drop line t)) (members_at (drop at s))) e
   unfolding subtype_faults given
   below-is c h q p g = rw (subtype_faults, ← f, eq-eqb v number h, ← q, ← p) g
@@ -95,27 +94,27 @@ pub size-noted : (t : List ℕ) (line n size : ℕ) (differ : Bool) (e e₁ : Li
 size-noted t line n size differ e e₁ l h z p q r =
     record { faults = rw (lowered-then, ← p, ← l, ← h, ← z) q; kept = rw (← l, ← h, ← z) r }
 
-module _ (s : List ℕ) (c : Column) {differ : Bool} (k : differ ≡ all_differ eqb (values_in s c)) (n : ℕ) (t : ObjectType) (e e₁ : List ℕ) (b : Bool)
+module _ (c : Column) {differ : Bool} (k : differ ≡ all_differ eqb (values_in c)) (n : ℕ) (t : ObjectType) (e e₁ : List ℕ) (b : Bool)
     (w : Noted t n c.count differ e e₁ b) where
   module _ (d : Diagram) (o : Population) where
-    told : {e₂ : List ℕ} → e₂ ≡ lowered (given b (member_faults d o n t (values_in s c))) e₁ → e₂ ≡ lowered (type_faults d o n t (values_in s c)) e
+    told : {e₂ : List ℕ} → e₂ ≡ lowered (given b (member_faults d o n t (values_in c))) e₁ → e₂ ≡ lowered (type_faults d o n t (values_in c)) e
     unfolding type_faults K1 K2
-    told q = rw (lowered-then, ← k, length-spaced c.count c.step (drop c.start s), ← w.faults, ← w.kept) q
+    told q = rw (lowered-then, ← k, length-spaced c.count c.step (drop c.start c.cells.now), ← w.faults, ← w.kept) q
 
-    pub told-broken : b ≡ false → e₁ ≡ lowered (type_faults d o n t (values_in s c)) e
+    pub told-broken : b ≡ false → e₁ ≡ lowered (type_faults d o n t (values_in c)) e
     unfolding given lowered
     told-broken h = told (rw h)
 
-    pub told-kept : {e₂ : List ℕ} (ws : List ℕ) → b ≡ true → ws ≡ sorted ltb (values_in s c) → e₂ ≡ lowered (member_faults d o n t ws) e₁
-        → e₂ ≡ lowered (type_faults d o n t (values_in s c)) e
+    pub told-kept : {e₂ : List ℕ} (ws : List ℕ) → b ≡ true → ws ≡ sorted ltb (values_in c) → e₂ ≡ lowered (member_faults d o n t ws) e₁
+        → e₂ ≡ lowered (type_faults d o n t (values_in c)) e
     unfolding given
-    told-kept ws h q g = told (rw (h, ← members-order (values_in s c) d o n t, ← q) g)
+    told-kept ws h q g = told (rw (h, ← members-order (values_in c) d o n t, ← q) g)
 
   -- those that are sorted
-  pub sorted-paired : (list spare ws marks : List ℕ) → b ≡ true → ws ≡ sorted ltb (values_in s c) → length spare ≡ length list → length ws ≡ length list
+  pub sorted-paired : (list spare ws marks : List ℕ) → b ≡ true → ws ≡ sorted ltb (values_in c) → length spare ≡ length list → length ws ≡ length list
       → length marks ≡ length spare → Paired ws marks
   sorted-paired list spare ws marks h q z l m =
-      record { rising = record { so = ap rising q ∙ rising-sorted (values_in s c) ∙ sym k ∙ go differ (sym w.kept ∙ h) }; even = omega arith }
+      record { rising = record { so = ap rising q ∙ rising-sorted (values_in c) ∙ sym k ∙ go differ (sym w.kept ∙ h) }; even = omega arith }
     where
       go : (x : Bool) → (x && in_range (t.min to t.max) c.count) ≡ true → x ≡ true
       go true f = refl
@@ -126,16 +125,16 @@ module _ (s : List ℕ) (c : Column) {differ : Bool} (k : differ ≡ all_differ 
 pub spare_room : {n : ℕ} (s list spare : List ℕ) → Room s list spare → n ≤ length list → n ≤ length spare
 spare_room s list spare r h = omega (arith, r.even)
 
-module _ (s : List ℕ) (c : Column) (at : ℕ) (list spare : List ℕ) (room : Room s list spare) (r : Reached s c) (v : values_in s c ≡ members_at (drop at s)) where
-  pub part-sized : {n : ℕ} → n ≡ c.count → n ≤ length list → Sized s c (take n list) (take n spare)
+module _ (s : List ℕ) (c : Column) (at : ℕ) (list spare : List ℕ) (room : Room s list spare) (v : values_in c ≡ members_at (drop at s)) where
+  pub part-sized : {n : ℕ} → n ≡ c.count → n ≤ length list → Sized c (take n list) (take n spare)
   part-sized {n} e h =
       let l : length (take n list) ≡ n = part-is list n h in
       let k : n ≤ length spare = omega (arith, room.even) in
       let m : length (take n spare) ≡ n = part-is spare n k in
-      record { reached = r; scratch = record { few = omega (arith, room.scratch.few); long = omega arith }; long = omega arith; even = omega arith }
+      record { scratch = record { few = omega (arith, room.scratch.few); long = omega arith }; long = omega arith; even = omega arith }
 
   count-is : c.count ≡ length (members_at (drop at s))
-  count-is = sym (length-spaced c.count c.step (drop c.start s)) ∙ ap length v
+  count-is = sym (length-spaced c.count c.step (drop c.start c.cells.now)) ∙ ap length v
 
   many : (t : ObjectType) → t.max ≤ 4096 → length list < c.count → in_range (t.min to t.max) c.count ≡ false
   many t m h =
@@ -148,13 +147,13 @@ module _ (s : List ℕ) (c : Column) (at : ℕ) (list spare : List ℕ) (room : 
       no_more false e g = refl
 
   pub sorted-told : (d : Diagram) (o : Population) (n : ℕ) (t : ObjectType) (e : List ℕ) {e₁ : List ℕ}
-      → e₁ ≡ lowered (type_faults d o n t (values_in s c)) e → e₁ ≡ lowered (type_faults d o n t (members_at (drop at s))) e
+      → e₁ ≡ lowered (type_faults d o n t (values_in c)) e → e₁ ≡ lowered (type_faults d o n t (members_at (drop at s))) e
   sorted-told d o n t e q = rw (← v) q
 
   pub many-told : (d : Diagram) (o : Population) (n : ℕ) (t : ObjectType) (e e₁ : List ℕ) {differ : Bool} (b : Bool) → Noted t n c.count differ e e₁ b
-      → differ ≡ all_differ eqb (values_in s c) → t.max ≤ 4096 → length list < c.count → e₁ ≡ lowered (type_faults d o n t (members_at (drop at s))) e
+      → differ ≡ all_differ eqb (values_in c) → t.max ≤ 4096 → length list < c.count → e₁ ≡ lowered (type_faults d o n t (members_at (drop at s))) e
   many-told d o n t e e₁ {differ} b w k m h =
-      sorted-told d o n t e (told-broken s c k n t e e₁ b w d o (w.kept ∙ ap (λ (x : Bool). differ && x) (many t m h) ∙ and_none differ))
+      sorted-told d o n t e (told-broken c k n t e e₁ b w d o (w.kept ∙ ap (λ (x : Bool). differ && x) (many t m h) ∙ and_none differ))
     where
       and_none : (x : Bool) → (x && false) ≡ false
       and_none true = refl

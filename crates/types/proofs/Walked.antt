@@ -21,9 +21,6 @@ use Rattle.blocks.specs.Starts.{Populated, Located, type-block}
 use Rattle.playing.specs.Places.{population_of}
 use Rattle.types.specs.Members.{Room}
 
-pub start_is : (starts : List ℕ) (i : ℕ) {a k : ℕ} → k ≡ i → a ≡ get_or starts k 0 → a ≡ get_or starts i 0
-start_is starts i e f = rw e at f
-
 module _ (t : List ℕ) where
   type_at : (i : ℕ) → i < type_count t → At (type_of (drop (2 + 6 * i) t)) (diagram_of t).types i
   unfolding diagram_of
@@ -51,11 +48,11 @@ module _ (of : ℕ → ObjectType → List ℕ → List Fault) (t s starts e₀ 
   left-start = record { rest = refl }
 
   module _ (e : List ℕ) (i : ℕ) (x : Left of t s e₀ e i) where
-    pub left-more : {e' : List ℕ} {m : ℕ} (line at n : ℕ) → Located t s starts → i < m → m ≡ type_count t
-        → e' ≡ lowered (of n (type_of (drop line t)) (members_at (drop at s))) e
-        → line ≡ 2 + 6 * i → at ≡ get_or starts i 0 → n ≡ i + 1 → Left of t s e₀ e' (i + 1)
+    pub left-more : {e' : List ℕ} {m : ℕ} (line k n : ℕ) → Located t s starts → i < m → m ≡ type_count t
+        → e' ≡ lowered (of n (type_of (drop line t)) (members_at (drop (get_or starts k 0) s))) e
+        → line ≡ 2 + 6 * i → k ≡ i → n ≡ i + 1 → Left of t s e₀ e' (i + 1)
     unfolding faults_of population_at
-    left-more line at n l h c f p q r =
+    left-more line j n l h c f p q r =
         let k : i < length (diagram_of t).types = omega (arith, types_are t) in
         let m : i < length (population_of t s).types = omega (arith, members-long type_width (λ (u : ObjectType). members_at) (diagram_of t).types s) in
         let a = at-get_or (type_of []) (type_at t i (rw c at h)) in

@@ -7,8 +7,7 @@ use Rattle.orm.specs.Form.{◌to◌, in_range}
 use Rattle.faults.specs.Faults.{unless, lowered, faults_of}
 use Rattle.faults.specs.Passes.{roles_faults}
 use Rattle.sorting.specs.Rising.{Rising}
-use Rattle.columns.specs.declared.Column.{Column}
-use Rattle.columns.specs.Reach.{Reached}
+use Rattle.columns.specs.declared.column.Column.{Column}
 use Rattle.order.specs.Parts.{Scratch}
 
 -- Scratch with room for every type in the cells of up to 4,096 members
@@ -18,8 +17,7 @@ pub record Room (s list spare : List ℕ) : Type 0 where
   pub enough : min 4096 (length s) ≤ length list
 
 -- A column, and scratch as long as it
-pub record Sized (s : List ℕ) (c : Column) (list spare : List ℕ) : Type 0 where
-  pub reached : Reached s c
+pub record Sized (c : Column) (list spare : List ℕ) : Type 0 where
   pub scratch : Scratch list spare
   pub long : length list ≡ c.count
   pub even : length spare ≡ length list

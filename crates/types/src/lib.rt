@@ -14,33 +14,36 @@ ghost use Rattle.table.specs.Positions.{diagram_of, Walkable};
 ghost use Rattle.columns.specs.Values.{values_in};
 ghost use Rattle.lookup.specs.Stamps.{is_set};
 ghost use Rattle.blocks.specs.Blocks.{members_at};
-ghost use Rattle.blocks.specs.Starts.{Populated, Located};
+ghost use Rattle.blocks.specs.Starts.{Populated};
 ghost use Rattle.playing.specs.Places.{population_of};
 ghost use Rattle.types.specs.Members.{Room, Sized, Paired, Noted, roles_told};
 
+use blocks::Blocks;
 use columns::Column;
+use faults::Faults;
 use selection::players::{must_play, plays};
 
-// The type at `line` of the table, with its block at `at` of the cells and this number.
-#[derive(Clone, Copy)]
+// The type at `line` of the table, the number of its block, and its own.
+#[derive(Clone, Copy, Debug, PartialEq, Eq)]
 struct Place {
     line: usize,
-    at: usize,
+    block: usize,
     number: u32,
 }
 
-// That of the type with index i.
-fn place_at(starts: &[usize], i: u32) -> Place
-    requires { i < 32 }
-    ensures line_value { result.line ≡ 2 + 6 * i }
-    ensures at_value { result.at ≡ get_or starts.now i 0 }
-    ensures number_value { result.number ≡ i + 1 }
-{
-    let k = columns::index(i);
-    Place {
-        line: 2 + 6 * k,
-        at: blocks::block(starts, k),
-        number: i + 1,
+impl Place {
+    // That of the type with index i.
+    fn new(i: u32) -> Place
+        requires { i < 32 }
+        ensures line { result.line ≡ 2 + 6 * i }
+        ensures block { result.block ≡ i }
+        ensures number { result.number ≡ i + 1 }
+    {
+        Place {
+            line: 2 + 6 * i as usize,
+            block: i as usize,
+            number: i + 1,
+        }
     }
 }
 
@@ -53,48 +56,34 @@ fn is_in_range(t: &[u32], line: usize, list: &[u32]) -> bool
     if !supertypes::has_range(t, line) {
         return true;
     }
-    if list.len() == 0 {
+    if list.is_empty() {
         return true;
     }
-    faults::both(
-        table::field(t, line, 2) <= list[0],
-        list[list.len() - 1] <= table::field(t, line, 3),
-    )
+    let low = table::field(t, line, 2);
+    let high = table::field(t, line, 3);
+    // `&`: behind `&&` the goal stays open.
+    (low <= list[0]) & (list[list.len() - 1] <= high)
 }
 
 // K4 of the type at a place, if it is below that with this number, whose members are in `list`.
-fn note_below(t: &[u32], cells: &[u32], number: u32, below: Place, list: &[u32], lowest: &mut [u32])
-    requires walkable { Walkable t.now }
-    requires rising { Rising list.now }
-    requires lowest_len { length lowest.old ≡ 12 }
-    ensures { lowest.new ≡ lowered (subtype_faults number list.now below.number (type_of (drop below.line t.now)) (members_at (drop below.at cells.now))) lowest.old }
+fn note_below(blocks: &Blocks<'_>, number: u32, below: Place, list: &[u32], faults: &mut Faults)
+    requires { Rising list.now }
+    ensures { faults.new.lowest ≡ lowered (subtype_faults number list.now below.number (type_of (drop below.line blocks.now.table.now)) (members_at (drop (get_or blocks.now.starts.now below.block 0) blocks.now.cells.now))) faults.old.lowest }
 {
-    if table::field(t, below.line, 4) != number {
+    if table::field(blocks.table, below.line, 4) != number {
         return;
     }
-    let kept = lookup::within(cells, blocks::members(cells, below.at), list);
-    faults::note(kept, 4, below.number, lowest);
+    let kept = lookup::within(&blocks.members(below.block), list);
+    faults.note(kept, 4, below.number);
 }
 
 // K4 of all types below that with this number.
-fn subtypes_pass(
-    t: &[u32],
-    cells: &[u32],
-    starts: &[usize],
-    number: u32,
-    list: &[u32],
-    lowest: &mut [u32],
-)
-    requires walkable { Walkable t.now }
-    requires located { Located t.now cells.now starts.now }
-    requires rising { Rising list.now }
-    requires lowest_len { length lowest.old ≡ 12 }
-    ensures { lowest.new ≡ lowered (faults_of (subtype_faults number list.now) 1 (diagram_of t.now).types (population_of t.now cells.now).types) lowest.old }
+fn subtypes_pass(blocks: &Blocks<'_>, number: u32, list: &[u32], faults: &mut Faults)
+    requires { Rising list.now }
+    ensures { faults.new.lowest ≡ lowered (faults_of (subtype_faults number list.now) 1 (diagram_of blocks.now.table.now).types (population_of blocks.now.table.now blocks.now.cells.now).types) faults.old.lowest }
 {
-    let mut i = 0;
-    while i < table::type_count(t) {
-        note_below(t, cells, number, place_at(starts, i), list, lowest);
-        i += 1;
+    for i in 0..table::type_count(blocks.table) {
+        note_below(blocks, number, Place::new(i), list, faults);
     }
 }
 
@@ -104,148 +93,112 @@ fn all_play(t: &[u32], place: Place, marks: &[u32]) -> bool
     ensures { result ≡ not (must_play (diagram_of t.now) place.number (type_of (drop place.line t.now))) || all is_set marks.now }
 {
     let must = must_play(t, place.line, place.number, plays(t, place.number));
-    if !must {
-        return true;
-    }
-    lookup::all_met(marks)
+    !must || lookup::all_met(marks)
 }
 
 // K7, K8 and K11 of its roles, and K10, by its members in order.
 fn roles_pass(
-    t: &[u32],
-    cells: &[u32],
-    starts: &[usize],
+    blocks: &Blocks<'_>,
     place: Place,
     list: &[u32],
     marks: &mut [u32],
-    lowest: &mut [u32],
+    faults: &mut Faults,
 )
-    requires walkable { Walkable t.now }
-    requires populated { Populated t.now cells.now }
-    requires located { Located t.now cells.now starts.now }
+    requires populated { Populated blocks.now.table.now blocks.now.cells.now }
     requires paired { Paired list.now marks.old }
-    requires lowest_len { length lowest.old ≡ 12 }
-    ensures { lowest.new ≡ roles_told (diagram_of t.now) (population_of t.now cells.now) place.number (type_of (drop place.line t.now)) list.now lowest.old }
+    ensures { faults.new.lowest ≡ roles_told (diagram_of blocks.now.table.now) (population_of blocks.now.table.now blocks.now.cells.now) place.number (type_of (drop place.line blocks.now.table.now)) list.now faults.old.lowest }
 {
-    lookup::clear(marks);
-    playing::preds_pass(t, cells, starts, place.number, list, marks, lowest);
-    faults::note(all_play(t, place, marks), 10, place.number, lowest);
+    marks.fill(0);
+    playing::preds_pass(blocks, place.number, list, marks, faults);
+    faults.note(all_play(blocks.table, place, marks), 10, place.number);
 }
 
 // The rest of a type whose K1 and K2 are kept, by its members in order: K3, K4 of the types below it, K7, K8 and K11 of its roles and K10.
 fn members_pass(
-    t: &[u32],
-    cells: &[u32],
-    starts: &[usize],
+    blocks: &Blocks<'_>,
     place: Place,
     list: &[u32],
     marks: &mut [u32],
-    lowest: &mut [u32],
+    faults: &mut Faults,
 )
-    requires walkable { Walkable t.now }
-    requires populated { Populated t.now cells.now }
-    requires located { Located t.now cells.now starts.now }
+    requires populated { Populated blocks.now.table.now blocks.now.cells.now }
     requires paired { Paired list.now marks.old }
-    requires lowest_len { length lowest.old ≡ 12 }
-    ensures { lowest.new ≡ lowered (member_faults (diagram_of t.now) (population_of t.now cells.now) place.number (type_of (drop place.line t.now)) list.now) lowest.old }
+    ensures { faults.new.lowest ≡ lowered (member_faults (diagram_of blocks.now.table.now) (population_of blocks.now.table.now blocks.now.cells.now) place.number (type_of (drop place.line blocks.now.table.now)) list.now) faults.old.lowest }
 {
-    faults::note(is_in_range(t, place.line, list), 3, place.number, lowest);
-    subtypes_pass(t, cells, starts, place.number, list, lowest);
-    roles_pass(t, cells, starts, place, list, marks, lowest);
+    let ranged = is_in_range(blocks.table, place.line, list);
+    faults.note(ranged, 3, place.number);
+    subtypes_pass(blocks, place.number, list, faults);
+    roles_pass(blocks, place, list, marks, faults);
 }
 
 // K1, by whether its members differ, and K2: whether both are kept.
-fn note_size(t: &[u32], place: Place, size: usize, differ: bool, lowest: &mut [u32]) -> bool
-    requires walkable { Walkable t.now }
-    requires lowest_len { length lowest.old ≡ 12 }
-    ensures { Noted (type_of (drop place.line t.now)) place.number size differ lowest.old lowest.new result }
+fn note_size(t: &[u32], place: Place, size: usize, differ: bool, faults: &mut Faults) -> bool
+    requires { Walkable t.now }
+    ensures { Noted (type_of (drop place.line t.now)) place.number size differ faults.old.lowest faults.new.lowest result }
 {
     let low = table::field(t, place.line, 0);
     let sized = columns::in_range(low, table::field(t, place.line, 1), size);
-    faults::note(differ, 1, place.number, lowest);
-    faults::note(sized, 2, place.number, lowest);
-    faults::both(differ, sized)
+    faults.note(differ, 1, place.number);
+    faults.note(sized, 2, place.number);
+    // `&`: behind `&&` the goal stays open.
+    differ & sized
 }
 
 // All of the type, by scratch as long as it has members.
 fn sorted_pass(
-    t: &[u32],
-    cells: &[u32],
-    starts: &[usize],
+    blocks: &Blocks<'_>,
     place: Place,
-    members: Column,
+    members: &Column<'_>,
     list: &mut [u32],
     spare: &mut [u32],
-    lowest: &mut [u32],
+    faults: &mut Faults,
 )
-    requires walkable { Walkable t.now }
-    requires populated { Populated t.now cells.now }
-    requires located { Located t.now cells.now starts.now }
-    requires sized { Sized cells.now members list.old spare.old }
-    requires lowest_len { length lowest.old ≡ 12 }
-    ensures { lowest.new ≡ lowered (type_faults (diagram_of t.now) (population_of t.now cells.now) place.number (type_of (drop place.line t.now)) (values_in cells.now members)) lowest.old }
+    requires populated { Populated blocks.now.table.now blocks.now.cells.now }
+    requires sized { Sized members.now list.old spare.old }
+    ensures { faults.new.lowest ≡ lowered (type_faults (diagram_of blocks.now.table.now) (population_of blocks.now.table.now blocks.now.cells.now) place.number (type_of (drop place.line blocks.now.table.now)) (values_in members.now)) faults.old.lowest }
 {
-    let differ = order::sort_values(cells, members, list, spare);
-    if note_size(t, place, members.count, differ, lowest) {
-        members_pass(t, cells, starts, place, list, spare, lowest);
+    let differ = order::sort_values(members, list, spare);
+    if note_size(blocks.table, place, members.count, differ, faults) {
+        members_pass(blocks, place, list, spare, faults);
     }
 }
 
 // All of the type.
 fn type_pass(
-    t: &[u32],
-    cells: &[u32],
-    starts: &[usize],
+    blocks: &Blocks<'_>,
     place: Place,
     list: &mut [u32],
     spare: &mut [u32],
-    lowest: &mut [u32],
+    faults: &mut Faults,
 )
-    requires walkable { Walkable t.now }
-    requires populated { Populated t.now cells.now }
-    requires located { Located t.now cells.now starts.now }
-    requires room { Room cells.now list.old spare.old }
-    requires t_bound { (type_of (drop place.line t.now)).max ≤ 4096 }
-    requires lowest_len { length lowest.old ≡ 12 }
-    ensures { lowest.new ≡ lowered (type_faults (diagram_of t.now) (population_of t.now cells.now) place.number (type_of (drop place.line t.now)) (members_at (drop place.at cells.now))) lowest.old }
+    requires populated { Populated blocks.now.table.now blocks.now.cells.now }
+    requires room { Room blocks.now.cells.now list.old spare.old }
+    requires max_bound { (type_of (drop place.line blocks.now.table.now)).max ≤ 4096 }
+    ensures { faults.new.lowest ≡ lowered (type_faults (diagram_of blocks.now.table.now) (population_of blocks.now.table.now blocks.now.cells.now) place.number (type_of (drop place.line blocks.now.table.now)) (members_at (drop (get_or blocks.now.starts.now place.block 0) blocks.now.cells.now))) faults.old.lowest }
 {
-    let members = blocks::members(cells, place.at);
+    let members = blocks.members(place.block);
     let count = members.count;
     if list.len() < count {
-        note_size(t, place, count, columns::differ(cells, members), lowest);
+        note_size(blocks.table, place, count, members.differ(), faults);
         return;
     }
     sorted_pass(
-        t,
-        cells,
-        starts,
+        blocks,
         place,
-        members,
+        &members,
         &mut list[..count],
         &mut spare[..count],
-        lowest,
+        faults,
     );
 }
 
 // Of all types.
-pub fn pass(
-    t: &[u32],
-    cells: &[u32],
-    starts: &[usize],
-    list: &mut [u32],
-    spare: &mut [u32],
-    lowest: &mut [u32],
-)
-    requires walkable { Walkable t.now }
-    requires populated { Populated t.now cells.now }
-    requires located { Located t.now cells.now starts.now }
-    requires room { Room cells.now list.old spare.old }
-    requires lowest_len { length lowest.old ≡ 12 }
-    ensures { lowest.new ≡ lowered (faults_of (type_faults (diagram_of t.now) (population_of t.now cells.now)) 1 (diagram_of t.now).types (population_of t.now cells.now).types) lowest.old }
+pub fn pass(blocks: &Blocks<'_>, list: &mut [u32], spare: &mut [u32], faults: &mut Faults)
+    requires populated { Populated blocks.now.table.now blocks.now.cells.now }
+    requires room { Room blocks.now.cells.now list.old spare.old }
+    ensures { faults.new.lowest ≡ lowered (faults_of (type_faults (diagram_of blocks.now.table.now) (population_of blocks.now.table.now blocks.now.cells.now)) 1 (diagram_of blocks.now.table.now).types (population_of blocks.now.table.now blocks.now.cells.now).types) faults.old.lowest }
 {
-    let mut i = 0;
-    while i < table::type_count(t) {
-        type_pass(t, cells, starts, place_at(starts, i), list, spare, lowest);
-        i += 1;
+    for i in 0..table::type_count(blocks.table) {
+        type_pass(blocks, Place::new(i), list, spare, faults);
     }
 }

@@ -6,28 +6,17 @@ ghost use Rattle.std.specs.Prelude.{◌≡◌, length};
 ghost use Rattle.orm.specs.Constraints.{answer};
 ghost use Rattle.orm.specs.Calls.{validate_call};
 ghost use Rattle.faults.specs.Faults.{answer_of};
-ghost use Rattle.reading.specs.WideTable.{most_numbers};
 ghost use Rattle.table.specs.Valid.{Valid};
 ghost use Rattle.table.specs.Positions.{diagram_of, Walkable};
-ghost use Rattle.blocks.specs.Starts.{Populated, Located};
+ghost use Rattle.blocks.specs.Starts.{Populated};
 ghost use Rattle.playing.specs.Places.{population_of};
 ghost use Rattle.types.specs.Members.{Room};
 ghost use Rattle.validator.specs.Outcomes.{validate_of, validated, is_final};
 
-use blocks::Extent;
-use faults::Verdict;
-use grammar::Fault;
-use widening::Acceptance;
-
-// Valid, the lowest broken constraint with the lowest type or predicate that breaks it, or a refusal: 1 to 6 of the table
-// with the line, then 9 with the index of the cell at which the cells end early or run on.
-#[derive(Clone, Copy)]
-pub enum ValidateAnswer {
-    Valid,
-    Breaks { constraint: u32, number: u32 },
-    Refused { fault: Fault, line: usize },
-    CellsEnd { at: usize },
-}
+use blocks::Blocks;
+use faults::{Faults, Verdict};
+use refusals::Refusal;
+use widening::MOST_NUMBERS;
 
 // ---- the constraints, where the cells are cut whole
 
@@ -46,91 +35,63 @@ fn is_final(verdict: Verdict) -> bool
 
 // The lowest broken constraint with the lowest number that breaks it, by one pass over the types and one over the predicates; `list` and
 // `spare` are scratch.
-fn first_by(
-    t: &[u32],
-    cells: &[u32],
-    starts: &[usize],
-    list: &mut [u32],
-    spare: &mut [u32],
-) -> Verdict
-    requires walkable { Walkable t.now }
-    requires populated { Populated t.now cells.now }
-    requires located { Located t.now cells.now starts.now }
-    requires room { Room cells.now list.old spare.old }
-    ensures { answer_of result ≡ answer (diagram_of t.now) (population_of t.now cells.now) }
+fn first_by(blocks: &Blocks<'_>, list: &mut [u32], spare: &mut [u32]) -> Verdict
+    requires populated { Populated blocks.now.table.now blocks.now.cells.now }
+    requires room { Room blocks.now.cells.now list.old spare.old }
+    ensures { answer_of result ≡ answer (diagram_of blocks.now.table.now) (population_of blocks.now.table.now blocks.now.cells.now) }
 {
-    let mut lowest = faults::none();
-    types::pass(t, cells, starts, list, spare, &mut lowest);
-    let verdict = faults::first(&lowest);
+    let mut faults = Faults::new();
+    types::pass(blocks, list, spare, &mut faults);
+    let verdict = faults.first();
     if is_final(verdict) {
         return verdict;
     }
-    rows::pass(t, cells, starts, list, spare, &mut lowest);
-    faults::first(&lowest)
+    rows::pass(blocks, list, spare, &mut faults);
+    faults.first()
 }
 
 // Scratch is cleared where it is made, so that few cells get little of it.
-fn first_broken(t: &[u32], cells: &[u32], starts: &[usize]) -> Verdict
-    requires walkable { Walkable t.now }
-    requires populated { Populated t.now cells.now }
-    requires located { Located t.now cells.now starts.now }
-    ensures { answer_of result ≡ answer (diagram_of t.now) (population_of t.now cells.now) }
+fn first_broken(blocks: &Blocks<'_>) -> Verdict
+    requires { Populated blocks.now.table.now blocks.now.cells.now }
+    ensures { answer_of result ≡ answer (diagram_of blocks.now.table.now) (population_of blocks.now.table.now blocks.now.cells.now) }
 {
-    if cells.len() <= 64 {
+    if blocks.cells.len() <= 64 {
         let mut list = [0u32; 64];
         let mut spare = [0u32; 64];
-        return first_by(t, cells, starts, &mut list, &mut spare);
+        return first_by(blocks, &mut list, &mut spare);
     }
     let mut list = [0u32; 4096];
     let mut spare = [0u32; 4096];
-    first_by(t, cells, starts, &mut list, &mut spare)
+    first_by(blocks, &mut list, &mut spare)
 }
 
 // ---- the call
 
 // The cells, against a valid table.
-fn validate_cells(t: &[u32], cells: &[u32], starts: &mut [usize]) -> ValidateAnswer
+fn validate_cells(t: &[u32], cells: &[u32], starts: &mut [usize]) -> Result<Verdict, Refusal>
     requires walkable { Walkable t.now }
     requires valid { Valid t.now }
     requires starts_len { length starts.old ≡ 65 }
     ensures { validate_of result ≡ validated (diagram_of t.now) cells.now }
 {
-    match blocks::cut(t, cells, starts) {
-        Extent::Broken { at } => ValidateAnswer::CellsEnd { at },
-        Extent::Whole => match first_broken(t, cells, starts) {
-            Verdict::Valid => ValidateAnswer::Valid,
-            Verdict::Breaks { constraint, number } => ValidateAnswer::Breaks { constraint, number },
-        },
+    if let Some(at) = blocks::cut(t, cells, starts) {
+        return Err(Refusal::Cells { at });
     }
+    let blocks = Blocks {
+        table: t,
+        cells,
+        starts,
+    };
+    Ok(first_broken(&blocks))
 }
 
-// Validates against any table; `wide` and `starts` are scratch.
-fn validate_table(
-    table: &[u32],
-    wide: &mut [u32],
-    cells: &[u32],
-    starts: &mut [usize],
-) -> ValidateAnswer
-    requires wide_len { length wide.old ≡ most_numbers }
-    requires starts_len { length starts.old ≡ 65 }
+// Valid, or the lowest broken constraint with the lowest type or predicate that breaks it. It refuses the
+// table (1 to 6), then cells that end early or run on (9), with the index of the cell.
+pub fn validate(table: &[u32], cells: &[u32]) -> Result<Verdict, Refusal>
     ensures { validate_of result ≡ validate_call table.now cells.now }
 {
-    match widening::accept(table, wide) {
-        Acceptance::Refused { fault, line } => ValidateAnswer::Refused { fault, line },
-        Acceptance::Widened {
-            length,
-            types: _,
-            preds: _,
-            roles: _,
-            groups: _,
-        } => validate_cells(&wide[..length], cells, starts),
-    }
-}
-
-pub fn validate(table: &[u32], cells: &[u32]) -> ValidateAnswer
-    ensures { validate_of result ≡ validate_call table.now cells.now }
-{
-    let mut wide = widening::scratch();
+    let mut wide = [0; MOST_NUMBERS];
+    let widened = widening::accept(table, &mut wide)?;
     let mut starts = blocks::scratch();
-    validate_table(table, &mut wide, cells, &mut starts)
+    validate_cells(&wide[..widened.length], cells, &mut starts)
 }

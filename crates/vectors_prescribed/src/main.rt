@@ -3,84 +3,51 @@
 // `refused=NUMBER,PLACE,ROUND;`.
 #![tactic(auto)]
 
-use prescription::Prescription;
+use buffer::Output;
 use std::fs::File;
 use std::io;
 use std::io::Read;
 
 fn main(rt: HostRuntime) -> io::Result<()> {
     let mut file = File::open(&rt, "prescribed")?;
-    let count = cases::next_number(&mut file)?;
-    print_cases(&rt, &mut file, count)
-}
-
-fn print_cases(rt: &impl Print, file: &mut impl Read, count: usize) -> io::Result<()> {
-    let mut left = count;
-    while 0 < left {
-        print_case(rt, file)?;
-        left -= 1;
+    for _ in 0..cases::next_number(&mut file)? {
+        print_case(&rt, &mut file)?;
     }
     Ok(())
 }
 
-fn table_space() -> [u32; 1024] {
-    [0u32; 1024]
-}
-
-fn cell_space() -> [u32; 16000] {
-    [0u32; 16000]
-}
-
 fn print_case(rt: &impl Print, file: &mut impl Read) -> io::Result<()> {
-    let mut table = table_space();
+    let mut table = [0; 1024];
     let n = cases::next_numbers(file, &mut table)?;
-    let mut given = [0u32; 3];
+    let mut given = [0; 3];
     cases::next_numbers(file, &mut given)?;
-    let mut cells = cell_space();
-    let space = cases::within_numbers(table::index(given[2]), &cells);
-    print_prescribed(rt, &table[..n], given[0], given[1], &mut cells[..space])
+    let [set, wanted, space] = given;
+    let mut cells = [0; 16000];
+    let space = (space as usize).min(cells.len());
+    let mut bytes = [0; 65536];
+    let mut lines = Output::new(&mut bytes);
+    push_outcome(&mut lines, &table[..n], set, wanted, &mut cells[..space]);
+    let mut joined = [0; 65536];
+    let mut line = Output::new(&mut joined);
+    let length = lines.at.min(lines.buffer.len());
+    cases::push_joined(&mut line, &lines.buffer[..length]);
+    line.push(b'\n');
+    cases::print(rt, &line)
 }
 
-fn print_prescribed(
-    rt: &impl Print,
+fn push_outcome(
+    lines: &mut Output<'_, u8>,
     table: &[u32],
     set: u32,
     wanted: u32,
     cells: &mut [u32],
-) -> io::Result<()> {
-    let answer = prescription::prescribe(table, set, wanted, cells);
-    print_outcome(rt, answer, cells)
-}
-
-// The lines of an outcome, joined into one.
-fn print_outcome(rt: &impl Print, answer: Prescription, cells: &[u32]) -> io::Result<()> {
-    let mut lines = [0u8; 65536];
-    let n = push_outcome(&mut lines, answer, cells);
-    let n = cases::within(n, &lines);
-    let mut line = [0u8; 65536];
-    let to = cases::push_joined(&mut line, 0, &lines[..n]);
-    let to = buffer::bytes::push(&mut line, to, b'\n');
-    cases::print(rt, &line, to)
-}
-
-fn push_outcome(out: &mut [u8], answer: Prescription, cells: &[u32]) -> usize {
-    match answer {
-        Prescription::Refused { fault, line } => {
-            command::push_refusal(out, grammar::number_of(fault), line, 0)
+) {
+    match prescription::prescribe(table, set, wanted, cells) {
+        Ok(written) => {
+            numerals::push_count(lines, b"rounds=", written.rounds as usize);
+            numerals::push_count(lines, b"length=", written.length);
+            numerals::push_line(lines, b"cells=", cells, 0, written.length);
         }
-        Prescription::NoSet { number } => command::push_refusal(out, 10, table::index(number), 0),
-        Prescription::Impossible { set, round } => {
-            command::push_refusal(out, 11, set, table::index(round))
-        }
-        Prescription::TooShort { needed } => command::push_refusal(out, 8, needed, 0),
-        Prescription::Accepted { length, rounds } => {
-            push_cells(out, table::index(rounds), cells, length)
-        }
+        Err(refusal) => command::push_refusal(lines, refusal),
     }
-}
-
-fn push_cells(out: &mut [u8], rounds: usize, cells: &[u32], length: usize) -> usize {
-    let to = numerals::push_count(out, 0, b"rounds=", rounds);
-    let to = numerals::push_count(out, to, b"length=", length);
-    numerals::push_line(out, to, b"cells=", cells, 0, length)
 }

@@ -1,81 +1,55 @@
 // Prints a line for each text of the file `texts`: the program's output, with `;` for each line
 // feed; and behind it, where reading accepts the text, whether writing its table gives it again.
-
 #![tactic(auto)]
 
+use buffer::Output;
+use refusals::Refusal;
 use std::fs::File;
 use std::io;
 use std::io::Read;
 
 fn main(rt: HostRuntime) -> io::Result<()> {
     let mut file = File::open(&rt, "texts")?;
-    let count = cases::next_number(&mut file)?;
-    print_cases(&rt, &mut file, count)
-}
-
-fn print_cases(rt: &impl Print, file: &mut impl Read, count: usize) -> io::Result<()> {
-    let mut left = count;
-    while 0 < left {
-        print_case(rt, file)?;
-        left -= 1;
+    for _ in 0..cases::next_number(&mut file)? {
+        print_case(&rt, &mut file)?;
     }
     Ok(())
 }
 
-fn text_space() -> [u8; 262144] {
-    [0u8; 262144]
-}
-
 fn print_case(rt: &impl Print, file: &mut impl Read) -> io::Result<()> {
-    let mut text = text_space();
+    let mut text = [0; 262144];
     let n = cases::next(file, &mut text)?;
-    let mut line = [0u8; 65536];
-    let to = push_case(&mut line, &text[..n]);
-    cases::print(rt, &line, to)
+    let mut space = [0; 65536];
+    let mut line = Output::new(&mut space);
+    push_case(&mut line, &text[..n]);
+    cases::print(rt, &line)
 }
 
 // The line of a text.
-fn push_case(out: &mut [u8], text: &[u8]) -> usize {
-    let to = push_output(out, text);
-    let to = push_return(out, to, text);
-    buffer::bytes::push(out, to, b'\n')
-}
-
-fn push_output(out: &mut [u8], text: &[u8]) -> usize {
-    let mut output = [0u8; 65536];
-    let n = command::run(text, &mut output);
-    let n = cases::within(n, &output);
-    cases::push_joined(out, 0, &output[..n])
-}
-
-fn table_space() -> [u32; reader::MOST_NUMBERS] {
-    [0u32; reader::MOST_NUMBERS]
-}
-
-// Whether reading and then writing gives the same text; nothing where reading refuses it.
-fn push_return(out: &mut [u8], at: usize, text: &[u8]) -> usize {
-    let mut table = table_space();
-    let answer = reader::read(text, &mut table);
-    match answer {
-        reader::Conversion::Refused { fault: _, line: _ } => at,
-        reader::Conversion::TooShort { needed: _ } => cases::push_same(out, at, false),
-        reader::Conversion::Accepted { length } => {
-            let n = cases::within_numbers(length, &table);
-            cases::push_same(out, at, is_text_of(&table[..n], text))
-        }
+fn push_case(line: &mut Output<'_, u8>, text: &[u8]) {
+    let mut output = [0; 65536];
+    let n = command::run(text, &mut output).min(output.len());
+    cases::push_joined(line, &output[..n]);
+    match is_kept(text) {
+        Ok(same) => cases::push_same(line, same),
+        Err(Refusal::Faulty { fault: _, line: _ }) => {}
+        Err(_) => cases::push_same(line, false),
     }
+    line.push(b'\n');
+}
+
+// Whether reading and then writing gives the same text; reading may refuse it.
+fn is_kept(text: &[u8]) -> Result<bool, Refusal> {
+    let mut table = [0; reader::MOST_NUMBERS];
+    let n = reader::read(text, &mut table)?.min(table.len());
+    Ok(is_text_of(&table[..n], text))
 }
 
 // Whether writing the table gives this text.
 fn is_text_of(table: &[u32], text: &[u8]) -> bool {
-    let mut written = [0u8; 65536];
-    let answer = writer::write(table, &mut written);
-    match answer {
-        reader::Conversion::Refused { fault: _, line: _ } => false,
-        reader::Conversion::TooShort { needed: _ } => false,
-        reader::Conversion::Accepted { length } => {
-            let n = cases::within(length, &written);
-            check::same(&written[..n], text)
-        }
+    let mut written = [0; 65536];
+    match writer::write(table, &mut written) {
+        Ok(length) => &written[..length.min(written.len())] == text,
+        Err(_) => false,
     }
 }

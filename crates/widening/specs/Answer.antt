@@ -1,15 +1,15 @@
 -- What accepting a table answers and writes, in document 01's numbers; and what a caller has of an accepted one.
-use Rattle.std.specs.Prelude.{ℕ, ◌≤◌, ◌≡◌, List, length}
+use Rattle.std.specs.Prelude.{ℕ, ◌≤◌, ◌≡◌, List, length, Result, Ok, Err}
 use Rattle.orm.specs.Diagram.{Diagram, Totals, totals}
 use Rattle.orm.specs.Text.{table_line}
-use Rattle.orm.specs.Outcome.{Outcome, refused, accepted, ◌>>=◌}
+use Rattle.orm.specs.Outcome.{Outcome, accepted, ◌>>=◌}
 use Rattle.orm.specs.Calls.{diagram_in}
 use Rattle.reading.specs.WideTable.{wide_table}
-use Rattle.grammar.specs.Fault.{number_of}
+use Rattle.refusals.specs.Refusal.{refusal_of}
+use Rattle.refusals.specs.declared.Refusal.{Refusal}
 use Rattle.table.specs.Positions.{diagram_of}
 use Rattle.table.specs.Valid.{Valid}
-use Rattle.widening.specs.declared.Acceptance.{Acceptance}
-use Rattle.widening.specs.declared.Acceptance.TheVariants.{Refused, Widened}
+use Rattle.widening.specs.declared.Widened.{Widened}
 
 -- The length of a diagram's table with role lines of one width, and what the diagram has
 pub record Described : Type 0 where
@@ -20,10 +20,10 @@ abbrev pub described : Outcome Diagram → Outcome Described
 described o = o >>= λ d. accepted (record { wide_length = length (wide_table d); totals = totals d })
 
 -- Of each answer document 01's number, place and round; or what is told of the diagram
-abbrev pub acceptance_of : Acceptance → Outcome Described
-acceptance_of (Refused f line) = refused (number_of f) line 0
-acceptance_of (Widened n types preds roles groups) =
-    accepted (record { wide_length = n; totals = record { types = types; preds = preds; roles = roles; groups = groups } })
+abbrev pub acceptance_of : Result Widened Refusal → Outcome Described
+acceptance_of (Ok w) =
+    accepted (record { wide_length = w.length; totals = record { types = w.types; preds = w.preds; roles = w.roles; groups = w.groups } })
+acceptance_of (Err r) = refusal_of r
 
 -- What is written
 abbrev pub widened : List ℕ → Outcome (List ℕ)

@@ -41,16 +41,11 @@ unfoldable pub plain_widened : ℕ → ℕ → List ℕ → List ℕ
 plain_widened types preds t =
     take (3 + 6 * types) t ++ preds_widened preds (drop (3 + 6 * types) t) ++ take 1 (drop (length t - 1) t)
 
--- `n` numbers from the position `at` on stand in the table, and from the index `to` on there is room for what they become
-pub record Fits (t : List ℕ) (at n : ℕ) (xs o : List ℕ) (to : ℕ) : Type 0 where
-  pub inside : at + n ≤ length t
-  pub room : to + length xs ≤ length o
-
 -- Of either kind
 unfoldable pub table_widened : ℕ → ℕ → List ℕ → List ℕ
 table_widened types preds t = elim (limits_roles (get_or t 0 0)) [ true ↦ t | false ↦ plain_widened types preds t ]
 
-pub record FitsKind (types preds : ℕ) (t o : List ℕ) : Type 0 where
+-- The numbers of a table with so many types and predicates stand in `t`
+pub record Inside (types preds : ℕ) (t : List ℕ) : Type 0 where
   pub some : 0 < length t
-  pub limited : get_or t 0 0 ≡ 2 → length t ≤ length o
-  pub plain : (get_or t 0 0 ≡ 2 → ⊥) → Fits t 0 (plain_fields types preds t) (plain_widened types preds t) o 0
+  pub plain : (get_or t 0 0 ≡ 2 → ⊥) → plain_fields types preds t ≤ length t

@@ -3,14 +3,14 @@ use Rattle.averages.proofs.Answers.{no_owner, number-some, owner-among, group-am
 use Rattle.std.proofs.Common.{rules}
 use Rattle.averages.proofs.average_valid.Goals as goal
 
-pub overflow_sub-q : goal.overflow_sub-q
-overflow_sub-q c = search (rules, number-some)
+pub overflow_sub-group : goal.overflow_sub-group
+overflow_sub-group c = search (rules, number-some)
 
 pub average_settled-requires : goal.average_settled-requires
 average_settled-requires c = search (rules, owner-among, group-among-sets)
 
-pub returns-in-Absent : goal.returns-in-Absent
-returns-in-Absent c = search (rules, no_owner)
+pub returns-in_default : goal.returns-in_default
+returns-in_default c = search (rules, no_owner)
 
-pub returns-in-Predicate : goal.returns-in-Predicate
-returns-in-Predicate c = search (rules, of_owner)
+pub returns : goal.returns
+returns c = search (rules, of_owner)

@@ -1,10 +1,10 @@
--- `bounds::check_valid` meets its contract. The table is short, or of any length.
-use Rattle.bounds.proofs.Tables.{posed_so}
+-- The table is short, or of any length.
+use Rattle.bounds.proofs.Tables.{takes_any, takes_short}
 use Rattle.std.proofs.Common.{rules}
 use Rattle.bounds.proofs.check_valid.Goals as goal
 
-pub check_short-requires : goal.check_short-requires
-check_short-requires c = search (rules, posed_so)
+pub check_within-requires-clause-takes : goal.check_within-requires-clause-takes
+check_within-requires-clause-takes c = takes_short c.requires.valid_totals.valid (search rules)
 
-pub check_any-requires : goal.check_any-requires
-check_any-requires c = search (rules, posed_so)
+pub check_within-requires-2-clause-takes : goal.check_within-requires-2-clause-takes
+check_within-requires-2-clause-takes c = takes_any c.requires.valid_totals.valid

@@ -1,4 +1,4 @@
--- `bounds::settle` meets its contract. Each end of the rounds is an answer.
+-- Each end of the rounds is an answer.
 use Rattle.bounds.proofs.Answers.{set-fits, answer-unsatisfiable, answer-fixpoint}
 use Rattle.std.proofs.Common.{rules}
 use Rattle.bounds.proofs.settle.Goals as goal
@@ -6,8 +6,8 @@ use Rattle.bounds.proofs.settle.Goals as goal
 pub overflow_add-result : goal.overflow_add-result
 overflow_add-result c = search (rules, set-fits)
 
-pub returns-in-Unsatisfiable : goal.returns-in-Unsatisfiable
-returns-in-Unsatisfiable c = search (rules, answer-unsatisfiable)
+pub returns-in-Err : goal.returns-in-Err
+returns-in-Err c = search (rules, answer-unsatisfiable)
 
-pub returns-in-Fixpoint : goal.returns-in-Fixpoint
-returns-in-Fixpoint c = search (rules, answer-fixpoint)
+pub returns-in-Ok : goal.returns-in-Ok
+returns-in-Ok c = search (rules, answer-fixpoint)

@@ -1,5 +1,5 @@
 -- A table that is accepted, for every call that starts with the check.
-use Rattle.std.specs.Prelude.{ℕ, ◌≡◌, List, take}
+use Rattle.std.specs.Prelude.{ℕ, ◌≡◌, List, take, Result, Ok}
 use Rattle.std.proofs.Common.{sym, ap}
 use Rattle.orm.specs.Diagram.{Totals, totals}
 use Rattle.orm.specs.Text.{table_line}
@@ -7,8 +7,8 @@ use Rattle.orm.specs.Outcome.{buffer_after}
 use Rattle.orm.specs.Calls.{diagram_in}
 use Rattle.widening.specs.Answer.{acceptance_of, described, widened, Accepted}
 use Rattle.widening.specs.Laws.Accepts.{accepted_as}
-use Rattle.widening.specs.declared.Acceptance.{Acceptance}
-use Rattle.widening.specs.declared.Acceptance.TheVariants.{Widened}
+use Rattle.refusals.specs.declared.Refusal.{Refusal}
+use Rattle.widening.specs.declared.Widened.{Widened}
 use Rattle.table.specs.Laws.Valid.{valid-walkable}
 use Rattle.limits.specs.Prepared.{ValidTotals}
 
@@ -23,7 +23,7 @@ valid-totals a = record {
   };
 }
 
-module _ (t w : List ℕ) {w' : List ℕ} {r : Acceptance} {n types preds roles groups : ℕ} where
-  pub table-totals : r ≡ Widened n types preds roles groups → acceptance_of r ≡ described (diagram_in table_line t)
-      → w' ≡ buffer_after (widened t) w → ValidTotals (take n w') roles groups
+module _ (t w : List ℕ) {w' : List ℕ} {r : Result Widened Refusal} {v : Widened} where
+  pub table-totals : r ≡ Ok v → acceptance_of r ≡ described (diagram_in table_line t)
+      → w' ≡ buffer_after (widened t) w → ValidTotals (take v.length w') v.roles v.groups
   table-totals p e ew = valid-totals (accepted_as t w p e ew)

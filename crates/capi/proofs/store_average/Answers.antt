@@ -1,19 +1,16 @@
--- `capi::store_average` meets its contract. Each arm stores the numbers of its outcome, the last the float beside them.
-use Rattle.capi.proofs.Stored.{average_stored, average_refused, average_whole, average_fraction}
+-- `capi::store_average` meets its contract. Each arm stores the numbers of its outcome, the second the float beside them.
+use Rattle.capi.specs.Answers.{average_numbers, float_after}
 use Rattle.std.proofs.Common.{rules}
 use Rattle.capi.proofs.store_average.Goals as goal
 
-pub returns-in-Refused : goal.returns-in-Refused
-returns-in-Refused c = search (rules, average_stored, average_refused)
+pub returns-in-Ok-Whole : goal.returns-in-Ok-Whole
+unfolding average_numbers float_after
+returns-in-Ok-Whole c = search rules
 
-pub returns-in-NoGroup : goal.returns-in-NoGroup
-returns-in-NoGroup c = search (rules, average_stored, average_refused)
+pub returns-in-Ok-Fraction : goal.returns-in-Ok-Fraction
+unfolding average_numbers float_after
+returns-in-Ok-Fraction c = search rules
 
-pub returns-in-Unsatisfiable : goal.returns-in-Unsatisfiable
-returns-in-Unsatisfiable c = search (rules, average_stored, average_refused)
-
-pub returns-in-Whole : goal.returns-in-Whole
-returns-in-Whole c = search (rules, average_stored, average_whole)
-
-pub returns-in-Fraction : goal.returns-in-Fraction
-returns-in-Fraction c = search (rules, average_stored, average_fraction)
+pub returns-in-Err : goal.returns-in-Err
+unfolding average_numbers float_after
+returns-in-Err c = search rules

@@ -1,5 +1,5 @@
 -- The proof of S-2 on running code: from what the contracts ensure, by the statement over the definitions.
-use Rattle.std.specs.Prelude.{ℕ, suc, min, ◌≤◌, ◌≡◌, List, [], ◌∷◌}
+use Rattle.std.specs.Prelude.{ℕ, suc, min, ◌≤◌, ◌≡◌, List, [], ◌∷◌, Result, Ok, Err}
 use Rattle.std.proofs.Common.{le_refl, arith, ap, subst, ◌∙◌}
 use Rattle.counting.proofs.Laws.Index.{each-from-at}
 use Rattle.counting.specs.Index.{At}
@@ -12,8 +12,9 @@ use Rattle.guarantee.specs.Guarantee.{NoPopulation, EmptiedAt, Populated}
 use Rattle.guarantee.specs.Subtypes.{FreeSubtype, RolelessRoot, TableSubtypes}
 use Rattle.guarantee.proofs.Subtypes.Proof.{subtypes}
 use Rattle.bounds.specs.Answer.{settlement_of}
-use Rattle.bounds.specs.declared.Settlement.{Settlement}
-use Rattle.bounds.specs.declared.Settlement.TheVariants.{Refused, Unsatisfiable, TooShort, Accepted}
+use Rattle.bounds.specs.declared.Written as bounds
+use Rattle.refusals.specs.declared.Refusal.{Refusal}
+use Rattle.refusals.specs.declared.Refusal.TheVariants as refusals
 use Rattle.populate.specs.Demand3.{TableOf, Making, Means, settled_sizes}
 use Rattle.populate.specs.Tied.{table-accepted}
 use Rattle.capi.specs.Answers.{numbers}
@@ -65,12 +66,15 @@ roots {t} {four} {before} {after} {make} x told h r = go told.answer told.number
     populated : (y : TableOf t) → ¬ Populated t y.diagram
     populated y p = subst NoPopulation (same-diagram x y) none _ p.cells_meet
 
-    go : (s : Settlement) → four ≡ numbers (settlement_of s) → Means t make s before after
+    go : (s : Result bounds.Written Refusal) → four ≡ numbers (settlement_of s) → Means t make s before after
         → (set : ℕ) × (round : ℕ) × (round ≤ 1) × (four ≡ 7 ∷ set ∷ round ∷ 0 ∷ []) × (after ≡ before)
-    go (Refused fault line) q m = absurd (m.0 x)
-    go (Unsatisfiable set round) q m = (set, round, at_once m.of m.at, q, m.kept)
-    go (TooShort needed) q m = absurd (populated m.of m.populated)
-    go (Accepted n rounds) q m = absurd (populated m.of m.populated)
+    go (Err (refusals.Faulty fault line)) q m = absurd (m.0 x)
+    go (Err (refusals.Emptied set round)) q m = (set, round, at_once m.of m.at, q, m.kept)
+    go (Err (refusals.TooShort needed)) q m = absurd (populated m.of m.populated)
+    go (Err (refusals.Cells at)) q m = absurd m
+    go (Err (refusals.NoSuch number)) q m = absurd m
+    go (Err (refusals.Impossible set round)) q m = absurd m
+    go (Ok w) q m = absurd (populated m.of m.populated)
 
 pub subtypes-told : SubtypesTold
 subtypes-told = record { settles = settles; validated = λ {t} cells x has {number} e. (said x).validated cells number (named t cells has e); roots = roots }

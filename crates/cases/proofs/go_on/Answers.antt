@@ -2,8 +2,8 @@ use Rattle.cases.proofs.Numbers.{going-digit, going-other}
 use Rattle.std.proofs.Common.{rules}
 use Rattle.cases.proofs.go_on.Goals as goal
 
-pub returns-then-is_digit : goal.returns-then-is_digit
-returns-then-is_digit c = search (rules, going-digit)
+pub returns-then-is_ascii_digit : goal.returns-then-is_ascii_digit
+returns-then-is_ascii_digit c = search (rules, going-digit)
 
-pub returns : goal.returns
-returns c = search (rules, going-other)
+pub returns-else-is_ascii_digit : goal.returns-else-is_ascii_digit
+returns-else-is_ascii_digit c = search (rules, going-other)

@@ -1,12 +1,8 @@
--- `cases::push_joined` meets its contract. The lines that are left come to the whole.
-use Prim.Native.Nat.{◌-◌, ◌≤◌}
-use lib.ListN.{length, drop}
-use Rattle.buffer.specs.Written.{Writing}
-use Rattle.cases.specs.Lines.{joined}
+-- `cases::push_joined` meets its contract.
+use Rattle.std.proofs.Common.{map, take}
+use Rattle.buffer.specs.Written.{Wrote}
+use Rattle.cases.specs.Lines.{joint}
 use Rattle.cases.proofs.push_joined.Given as goal
 
-abbrev pub invariant-loop-i : goal.invariant-loop-i
-invariant-loop-i l = (l.i ≤ length l.lines) × Writing l.initial.out l.at (joined l.lines) l.out l.to (joined (drop l.i l.lines))
-
-abbrev pub decreases-loop-i : goal.decreases-loop-i
-decreases-loop-i l = length l.lines - l.i
+abbrev pub invariant-loop-b : goal.invariant-loop-b
+invariant-loop-b l = Wrote l.initial.out (map joint (take l.b-index l.lines)) l.out

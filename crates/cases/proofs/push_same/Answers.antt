@@ -6,5 +6,5 @@ use Rattle.cases.proofs.push_same.Goals as goal
 pub returns-then-same : goal.returns-then-same
 returns-then-same c = search (rules, same_word)
 
-pub returns : goal.returns
-returns c = search (rules, differs_word)
+pub returns-else-same : goal.returns-else-same
+returns-else-same c = search (rules, differs_word)

@@ -1,16 +1,7 @@
-use Rattle.buffer.specs.Laws.{writing_start, writing_more, writing-all, writing-long}
-use Rattle.cases.proofs.Numbers.{numbers_more, numbers-none}
+-- `cases::write_numbers` meets its contract.
+use Rattle.buffer.specs.Laws.{written_all}
 use Rattle.std.proofs.Common.{rules}
 use Rattle.cases.proofs.write_numbers.Goals as goal
 
-pub loop-i-init : goal.loop-i-init
-loop-i-init c = search (rules, writing_start)
-
-pub loop-i-preserved : goal.loop-i-preserved
-loop-i-preserved c = search (rules, writing_more, numbers_more)
-
-pub shape_of-out : goal.shape_of-out
-shape_of-out c = search (rules, writing-long)
-
 pub returns : goal.returns
-returns c = search (rules, writing-all, numbers-none)
+returns c = search (rules, written_all)

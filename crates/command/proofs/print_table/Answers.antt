@@ -5,17 +5,17 @@ use Rattle.command.proofs.Prints.{table-refused, table-printed}
 use Rattle.std.proofs.Common.{rules}
 use Rattle.command.proofs.print_table.Goals as goal
 
-pub slice_bounds-print_valid-end : goal.slice_bounds-print_valid-end
-slice_bounds-print_valid-end c = search (rules, accepted-within)
+pub slice_bounds-wide-end : goal.slice_bounds-wide-end
+slice_bounds-wide-end c = search (rules, accepted-within)
 
-pub slice_bounds-print_valid-end-in-Widened : goal.slice_bounds-print_valid-end-in-Widened
-slice_bounds-print_valid-end-in-Widened c = search (rules, accepted-front)
+pub slice_bounds-print_valid-end : goal.slice_bounds-print_valid-end
+slice_bounds-print_valid-end c = search (rules, accepted-front)
 
 pub print_valid-requires : goal.print_valid-requires
 print_valid-requires c = search (rules, table-totals)
 
-pub returns-in-Refused : goal.returns-in-Refused
-returns-in-Refused c = search (rules, table-refused)
+pub returns-in-Err : goal.returns-in-Err
+returns-in-Err c = search (rules, table-refused)
 
-pub returns-in-Widened : goal.returns-in-Widened
-returns-in-Widened c = search (rules, table-printed)
+pub returns-in-Ok : goal.returns-in-Ok
+returns-in-Ok c = search (rules, table-printed)

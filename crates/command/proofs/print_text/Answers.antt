@@ -1,19 +1,16 @@
 -- `command::print_text` meets its contract. What reading promises decides what is printed.
-use Rattle.command.proofs.Prints.{read-faulty, read_short, table-within, table-count, read-printed}
+use Rattle.command.proofs.Prints.{read-refused, table-within, table-count, read-printed}
 use Rattle.std.proofs.Common.{rules}
 use Rattle.command.proofs.print_text.Goals as goal
 
+pub slice_bounds-table-end : goal.slice_bounds-table-end
+slice_bounds-table-end c = search (rules, table-within)
+
 pub slice_bounds-print_table-end : goal.slice_bounds-print_table-end
-slice_bounds-print_table-end c = search (rules, table-within)
+slice_bounds-print_table-end c = search (rules, table-count)
 
-pub slice_bounds-print_table-end-in-Accepted : goal.slice_bounds-print_table-end-in-Accepted
-slice_bounds-print_table-end-in-Accepted c = search (rules, table-count)
+pub returns-in-Err : goal.returns-in-Err
+returns-in-Err c = search (rules, read-refused)
 
-pub returns-in-Refused : goal.returns-in-Refused
-returns-in-Refused c = search (rules, read-faulty)
-
-pub returns-in-TooShort : goal.returns-in-TooShort
-returns-in-TooShort c = search (rules, read_short)
-
-pub returns-in-Accepted : goal.returns-in-Accepted
-returns-in-Accepted c = search (rules, read-printed)
+pub returns-in-Ok : goal.returns-in-Ok
+returns-in-Ok c = search (rules, read-printed)

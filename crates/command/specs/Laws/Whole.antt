@@ -4,11 +4,11 @@ use Rattle.std.proofs.Common.{arith, sym, ap, ap₂, ◌∙◌, leb-true}
 use Rattle.std.proofs.Math.Seq.{drop-append_seam}
 use Rattle.orm.specs.Program.{program}
 use Rattle.extent.specs.Output.{program-at-most}
-use Rattle.buffer.specs.Written.{Wrote}
+use Rattle.buffer.specs.Written.{WroteAll}
 use Rattle.buffer.specs.Laws.{wrote-end, wrote-front, wrote-whole}
 
 -- Of any writing from the front on that has room
-wrote-behind : {o xs o' : List ℕ} {to : ℕ} → Wrote o 0 xs o' to → length xs ≤ length o → drop to o' ≡ drop to o
+wrote-behind : {o xs o' : List ℕ} {to : ℕ} → WroteAll o xs o' to → length xs ≤ length o → drop to o' ≡ drop to o
 wrote-behind {o} {xs} {o'} {to} w room =
     let e : to ≡ length xs = wrote-end w room in
     ap₂ {C = List ℕ} (λ (n : ℕ) (l : List ℕ). drop n l) e (wrote-whole w room) ∙ drop-append_seam xs (drop (length xs) o)
@@ -16,7 +16,7 @@ wrote-behind {o} {xs} {o'} {to} w room =
 
 -- Of a buffer with `n` bytes; the test computes where `n` is a numeral
 module _ (input : List ℕ) {o o' : List ℕ} {to n : ℕ}
-    (w : Wrote o 0 (program input) o' to) (long : length o ≡ n) (enough : leb 262144 n ≡ true) where
+    (w : WroteAll o (program input) o' to) (long : length o ≡ n) (enough : leb 262144 n ≡ true) where
   room : length (program input) ≤ length o
   room = omega (arith, program-at-most input, long, leb-true 262144 n enough)
 

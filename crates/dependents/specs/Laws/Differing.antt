@@ -1,7 +1,8 @@
 -- The sets at which two lists of sizes differ: none is past their ends, and there are none where the lists are the same.
-use Rattle.std.specs.Prelude.{ℕ, zero, suc, ◌+◌, ◌≤◌, ◌<◌, ◌≡◌, refl, Bool, true, false, not, ◌&&◌, List, [], ◌∷◌, ◌++◌, eqb, length, get_or}
+use Rattle.std.specs.Prelude.{ℕ, zero, suc, ◌+◌, ◌≤◌, ◌<◌, ◌≡◌, refl, Bool, true, false, not, ◌&&◌, List, [], ◌∷◌, ◌++◌, eqb, length, get_or, slice_index, take}
 use Rattle.std.proofs.Math.Nat.{suc_inj}
-use Rattle.std.proofs.Common.{arith, sym, ◌∙◌, eq-eqb, ne_eqb, eqb-true}
+use mathlib.Core.List.{append-nil, append_assoc}
+use Rattle.std.proofs.Common.{arith, ap, sym, ◌∙◌, eq-eqb, ne_eqb, eqb-true}
 use Rattle.counting.specs.Lists.{when, same}
 use Rattle.dependents.specs.Dependents.{differing}
 
@@ -42,6 +43,22 @@ none_differ i (x ∷ c) (y ∷ c') e = go (eqb x y) refl (none_differ (suc i) c 
       where
         apart : x ≡ y → eqb x y ≡ false → ⊥
         apart p r = let t : ◌≡◌ {A = Bool} true false = sym (eq-eqb x y p) ∙ r in let z : ◌≡◌ {A = ℕ} 0 1 = cc in absurd (omega arith)
+
+-- One set more
+pub differing_more : (i k : ℕ) (c c' : List ℕ) → k < length c → k < length c'
+    → differing i (take (suc k) c) (take (suc k) c') ≡ differing i (take k c) (take k c') ++ when (not (eqb (slice_index c k) (slice_index c' k))) (i + k)
+unfolding differing
+differing_more i k [] c' h h' = absurd (omega arith)
+differing_more i k (x ∷ c) [] h h' = absurd (omega arith)
+differing_more i zero (x ∷ c) (y ∷ c') h h' =
+    let e : i ≡ i + 0 = omega arith in
+    append-nil (when (not (eqb x y)) i) ∙ ap (when (not (eqb x y))) e
+differing_more i (suc k) (x ∷ c) (y ∷ c') h h' =
+    let e : suc i + k ≡ i + suc k = omega arith in
+    let b : Bool = not (eqb (slice_index c k) (slice_index c' k)) in
+    ap (λ ss. when (not (eqb x y)) i ++ ss)
+    (differing_more (suc i) k c c' (omega arith) (omega arith) ∙ ap (λ j. differing (suc i) (take k c) (take k c') ++ when b j) e)
+    ∙ sym (append_assoc (when (not (eqb x y)) i) (differing (suc i) (take k c) (take k c')) (when b (i + suc k)))
 
 -- A set at which the lists differ is listed
 pub record Listed (c c' : List ℕ) (s : ℕ) : Type 0 where

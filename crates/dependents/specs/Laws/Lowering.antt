@@ -1,5 +1,5 @@
 -- A round in the making: limits put to use one after another, until those that a changed set has as an operand have been.
-use Rattle.std.specs.Prelude.{ℕ, ◌+◌, ◌≤◌, ◌<◌, ◌≡◌, refl, ◌⊎◌, List, length, get_or}
+use Rattle.std.specs.Prelude.{ℕ, ◌≤◌, ◌<◌, ◌≡◌, refl, ◌⊎◌, List, length, slice_index}
 use Rattle.std.proofs.Common.{sym, ap, subst, ◌∙◌, inl, inr, le_refl, le_trans, arith}
 use Rattle.std.proofs.Math.Path.{subst⁻¹}
 use Rattle.counting.specs.Terms.{◌∈◌}
@@ -7,76 +7,67 @@ use Rattle.fixpoint.specs.Limits.{Limit, value_of, lowered, round}
 use Rattle.fixpoint.specs.Notions.{◌≼◌}
 use Rattle.fixpoint.proofs.Laws.Order.{≼_refl, ≼_trans, ≼_antisym}
 use Rattle.fixpoint.proofs.Laws.Round.{le_lowered, le_round, round_≼, round-target}
-use Rattle.lowering.specs.Encoding.{limit_at, decode}
-use Rattle.lowering.specs.Closed.{Start}
+use Rattle.lowering.specs.Closed.{operands_of}
 use Rattle.lowering.specs.Laws.Lowered.{length-lowered, lowered-below}
+use Rattle.dependents.specs.declared.Use.{Use}
 use Rattle.dependents.specs.Dependents.{Lowering, Done, Served, Due}
-use Rattle.dependents.specs.Laws.Starts.{Starts, in_starts, start_in}
 use Rattle.dependents.specs.Laws.Values.{Differs, value_or}
 use Rattle.dependents.specs.Laws.Differing.{Listed, differing-lists}
 
 -- a limit put to use
-module _ (xs old new : List ℕ) (p : ℕ) {new' : List ℕ} (e : new' ≡ lowered old (limit_at xs p) new) where
+module _ (old new : List ℕ) (l : Limit) {new' : List ℕ} (e : new' ≡ lowered old l new) where
   pub lowered_≼ : new' ≼ new
-  lowered_≼ = rw e (record { sized = length-lowered old new (limit_at xs p); entry = lowered-below old new (limit_at xs p) })
+  lowered_≼ = rw e (record { sized = length-lowered old new l; entry = lowered-below old new l })
 
-  pub lowering-more : Start xs p → p + 4 ≤ length xs → Lowering xs old new → Lowering xs old new'
-  lowering-more s h w = record {
+  pub lowering-more : {ls : List Limit} → l ∈ ls → Lowering ls old new → Lowering ls old new'
+  lowering-more {ls} i w = record {
     above = rw e (record {
-      sized = w.above.sized ∙ sym (length-lowered old new (limit_at xs p));
-      entry = λ i. (le_lowered old (limit_at xs p) new i (get_or (round (decode xs) old) i 0)).1 (
-        w.above.entry i,
-        λ q. subst (λ (t : ℕ). get_or (round (decode xs) old) t 0 ≤ value_of old (limit_at xs p).most) q
-            (round-target (decode xs) old (limit_at xs p) (start_in s h)),
+      sized = w.above.sized ∙ sym (length-lowered old new l);
+      entry = λ j. (le_lowered old l new j (slice_index (round ls old) j)).1 (
+        w.above.entry j,
+        λ q. subst (λ (t : ℕ). slice_index (round ls old) t ≤ value_of old l.most) q (round-target ls old l i),
       );
     });
     below = ≼_trans lowered_≼ w.below;
   }
 
-  pub lowered-done : Done xs old new' p
-  lowered-done = rw e (record { is = ((le_lowered old (limit_at xs p) new (get_or xs (p + 1) 0) _).0 (le_refl _)).1 refl })
+  pub lowered-done : Done old new' l
+  lowered-done = rw e (record { is = ((le_lowered old l new l.target _).0 (le_refl _)).1 refl })
 
 -- what is allowed stays so
-module _ {xs old : List ℕ} where
-  pub lowering-start : {new : List ℕ} → new ≡ old → Lowering xs old new
-  lowering-start e = rw e (record { above = round_≼ (decode xs) old; below = ≼_refl old })
+pub done-since : {old new new' : List ℕ} {l : Limit} → new' ≼ new → Done old new l → Done old new' l
+done-since {l = l} w d = record { is = le_trans (w.entry l.target) d.is }
 
-  pub done-since : {new new' : List ℕ} {p : ℕ} → new' ≼ new → Done xs old new p → Done xs old new' p
-  done-since {p = p} w d = record { is = le_trans (w.entry (get_or xs (p + 1) 0)) d.is }
+module _ {ls : List Limit} {old : List ℕ} where
+  pub lowering-start : {new : List ℕ} → new ≡ old → Lowering ls old new
+  lowering-start e = rw e (record { above = round_≼ ls old; below = ≼_refl old })
 
-  pub served-since : {new new' : List ℕ} {s : ℕ} → new' ≼ new → Served xs old new s → Served xs old new' s
-  served-since w d = record { at = λ p q o e. done-since w (d.at p q o e) }
+  pub served-since : {new new' : List ℕ} {s : ℕ} → new' ≼ new → Served ls old new s → Served ls old new' s
+  served-since w d = record { at = λ l i m. done-since w (d.at l i m) }
 
 -- where the limits of every changed set have been put to use the round is made
-module _ {xs links sets old new : List ℕ} (d : Due xs links sets old) (w : Lowering xs old new)
-    (served : (j : ℕ) → j < length sets → Served xs old new (get_or sets j 0)) where
-  allowed : (l : Limit) → l ∈ decode xs → get_or new l.target 0 ≤ value_of old l.most
-  allowed l m = go (in_starts l m)
+module _ {ls : List Limit} {last : List ℕ} {uses : List Use} {sets old new : List ℕ} (d : Due ls last uses sets old) (w : Lowering ls old new)
+    (served : (j : ℕ) → j < length sets → Served ls old new (slice_index sets j)) where
+  allowed : (l : Limit) → l ∈ ls → slice_index new l.target ≤ value_of old l.most
+  allowed l m = split (value_or d.before old l.most)
     where
-      at : {p : ℕ} → Start xs p → p + 4 ≤ length xs → limit_at xs p ∈ decode xs
-          → get_or new (get_or xs (p + 1) 0) 0 ≤ value_of old (limit_at xs p).most
-      at {p} s h i = split (value_or d.before old xs (length old) p s (d.linked.closed.whole p s h))
+      split : (value_of d.before l.most ≡ value_of old l.most) ⊎ Differs d.before old (operands_of l.most) → slice_index new l.target ≤ value_of old l.most
+      split (inl e) =
+          let made : slice_index old l.target ≤ value_of d.before l.most =
+          subst⁻¹ (λ (c : List ℕ). slice_index c l.target ≤ value_of d.before l.most) d.made (round-target ls d.before l m) in
+          omega (arith, w.below.entry l.target)
+      split (inr q) = found (differing-lists d.before old (ap length d.made ∙ (round_≼ ls d.before).sized) q.operand q.apart)
         where
-          split : (value_of d.before (limit_at xs p).most ≡ value_of old (limit_at xs p).most) ⊎ Differs d.before old xs p
-              → get_or new (get_or xs (p + 1) 0) 0 ≤ value_of old (limit_at xs p).most
-          split (inl e) =
-              let made : get_or old (get_or xs (p + 1) 0) 0 ≤ value_of d.before (limit_at xs p).most =
-              subst⁻¹ (λ (c : List ℕ). get_or c (get_or xs (p + 1) 0) 0 ≤ value_of d.before (limit_at xs p).most) d.made
-              (round-target (decode xs) d.before (limit_at xs p) i) in
-              omega (arith, w.below.entry (get_or xs (p + 1) 0))
-          split (inr q) = found (differing-lists d.before old (ap length d.made ∙ (round_≼ (decode xs) d.before).sized) (get_or xs q.operand 0) q.apart)
-            where
-              found : Listed d.before old (get_or xs q.operand 0) → get_or new (get_or xs (p + 1) 0) 0 ≤ value_of old (limit_at xs p).most
-              found f = ((served f.place (rw d.listed f.within)).at p q.operand q.has (rw d.listed (sym f.is))).is
+          found : Listed d.before old q.operand → slice_index new l.target ≤ value_of old l.most
+          found f =
+              let at : slice_index sets f.place ≡ q.operand = ap (λ (ss : List ℕ). slice_index ss f.place) d.listed ∙ f.is in
+              ((served f.place (rw d.listed f.within)).at l m (subst⁻¹ (λ (s : ℕ). s ∈ operands_of l.most) at q.has)).is
 
-      go : Starts xs l → get_or new l.target 0 ≤ value_of old l.most
-      go s = rw s.is (at s.start s.room (start_in s.start s.room))
-
-  pub due-round : new ≡ round (decode xs) old
+  pub due-round : new ≡ round ls old
   due-round =
       ≼_antisym
       (record {
-        sized = w.below.sized ∙ sym (round_≼ (decode xs) old).sized;
-        entry = λ i. (le_round (decode xs) old i (get_or new i 0)).1 (w.below.entry i, λ l m e. rw (← e) (allowed l m));
+        sized = w.below.sized ∙ sym (round_≼ ls old).sized;
+        entry = λ i. (le_round ls old i (slice_index new i)).1 (w.below.entry i, λ l m e. rw (← e) (allowed l m));
       })
       w.above

@@ -1,5 +1,5 @@
 -- The proof of S-3's statement.
-use Rattle.std.specs.Prelude.{ℕ, zero, suc, ◌+◌, ◌≡◌, refl, List, [], ◌∷◌, get_or}
+use Rattle.std.specs.Prelude.{ℕ, zero, suc, ◌+◌, ◌≡◌, refl, Option, Some, None, List, [], ◌∷◌, get_or}
 use Rattle.std.proofs.Common.{sym, ap, subst, ◌∙◌, arith}
 use mathlib.Core.List.Memᴰ.{head as here}
 use mathlib.Core.List.Memᴰ.{tail as there}
@@ -10,14 +10,15 @@ use Rattle.orm.specs.Form.{Range, ◌to◌, unlimited, ranges}
 use Rattle.orm.proofs.Cases.Ranges.{ranged-fields}
 use Rattle.orm.specs.Ranges.{Field, field, fields_from, ranged_fields}
 use Rattle.lexer.specs.Cuts.{kind_of}
-use Rattle.grammar.specs.declared.ranges.Bounds.{Bounds}
-use Rattle.grammar.specs.declared.ranges.Bounds.TheVariants.{Between, NoRange}
 use Rattle.grammar.specs.Bounds.{range_of}
 use Rattle.grammar.specs.Listed.{Gives, RangesListed}
 
-between : (r : Bounds) {low high : ℕ} → range_of r ≡ low to high → r ≡ Between low high
-between (Between a b) e = cc
-between NoRange e = let z : ◌≡◌ {A = ℕ} 0 1 = cc in absurd (omega arith)
+between : (r : Option (ℕ × ℕ)) {low high : ℕ} → range_of r ≡ low to high → r ≡ Some (low, high)
+between (Some r) {low} {high} e =
+    let a : r.0 ≡ low = cc in
+    let b : r.1 ≡ high = cc in
+    rw (a, b) refl
+between None e = let z : ◌≡◌ {A = ℕ} 0 1 = cc in absurd (omega arith)
 
 given : (k : LineKind) (number low high : ℕ) → get_or (ranges k) number unlimited ≡ low to high → Gives (field k number low high)
 given k number low high e key r q h = between r (h ∙ ap (λ (x : LineKind). get_or (ranges x) number unlimited) q ∙ e)

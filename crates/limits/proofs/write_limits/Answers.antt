@@ -1,5 +1,4 @@
--- `limits::write_limits` meets its contract. The limits of the predicates, then those of the types.
-use Rattle.limits.proofs.Walked.{limits-is, first-played}
+use Rattle.limits.proofs.Walked.{limits_is, first-played}
 use Rattle.std.proofs.Common.{rules}
 use Rattle.limits.proofs.write_limits.Goals as goal
 
@@ -7,4 +6,4 @@ pub push_types-requires-clause-played : goal.push_types-requires-clause-played
 push_types-requires-clause-played c = search (rules, first-played)
 
 pub returns : goal.returns
-returns c = search (rules, limits-is)
+returns c = search (rules, limits_is)

@@ -13,7 +13,7 @@ use Rattle.counting.specs.Index.{At}
 use Rattle.counting.proofs.Laws.Members.{each_nil, each-cons, each-head, each_tail, each_append, each_map, of-flat_map}
 use Rattle.counting.proofs.Laws.Range.{of-up_from}
 use Rattle.fixpoint.specs.Limits.{Limit}
-use Rattle.lowering.specs.Closed.{Inside, operands_of}
+use Rattle.lowering.specs.Closed.{Inside}
 use Rattle.orm.specs.Diagram.{ObjectType, Role, Frequency, Predicate, Diagram, is_root, must_play, is_mandatory, is_grouped, index}
 use Rattle.orm.specs.Diagram.{all_roles, all_groups}
 use Rattle.orm.proofs.Laws.Limits.{each-only_if}
@@ -28,7 +28,7 @@ use Rattle.orm.proofs.Laws.Bounds.{length-upper}
 
 module _ {n : ℕ} where
   inside-at_most : {s t : ℕ} → s < n → t < n → Inside n (at_most s t)
-  unfolding at_most operands_of
+  unfolding at_most
   inside-at_most h k = record { target = h; operands = each-cons _ k (each_nil _) }
 
   each-items : {A : Type 0} (g : ℕ → A → List Limit) (i : ℕ) (xs : List A) → ((k : ℕ) (a : A) → At a xs k → Each (Inside n) (g (i + k) a))
@@ -71,7 +71,7 @@ module _ {n types : ℕ} {x : Placed} (f : Fits n types x) where
       (each-only_if _ (is_mandatory r) (λ _. inside-at_most player own))))
 
   group-inside : (k : ℕ) (q : Frequency) → At q x.predicate.groups k → Each (Inside n) (limits_of_group x (1 + k) q)
-  unfolding limits_of_group operands_of
+  unfolding limits_of_group
   group-inside k q m =
       let own : group_set x (1 + k) < n = group-below (1 + k) (omega arith) (omega (arith, at-below m)) in
       each-cons _ (record { target = f.own; operands = each-cons _ own (each_nil _) })
@@ -87,7 +87,7 @@ module _ {n types : ℕ} {x : Placed} (f : Fits n types x) where
       (each_map _ role_part (group_roles x 0) (group-roles-below 0))
 
   rows_inside : Inside n (limit_of_rows x)
-  unfolding limit_of_rows operands_of
+  unfolding limit_of_rows
   rows_inside = record { target = f.own; operands = each_map (◌< n) (λ (b : Part). b.own) (parts x) parts_below }
 
   pred-inside : Each (Inside n) (limits_of_pred x)
@@ -115,7 +115,7 @@ module _ {n types : ℕ} (players : types ≤ n) where
 
 module _ (d : Diagram) (w : WellFormed d) where
   type-inside : (a : ℕ) (t : ObjectType) → At t d.types a → Each (Inside (length (upper d))) (limits_of_type d a t)
-  unfolding limits_of_type roles_of_type first_role first_pred operands_of
+  unfolding limits_of_type roles_of_type first_role first_pred
   type-inside a t m =
       let e = length-upper d in
       let own : a < length (upper d) = omega (arith, e, at-below m) in

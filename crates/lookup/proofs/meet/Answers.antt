@@ -1,21 +1,16 @@
-use Rattle.lookup.proofs.Walks.{meeting_start, meeting_more, meeting_end, before-fits, before-near, before-reached}
+use Rattle.columns.specs.Values.{length-spaced}
+use Rattle.lookup.proofs.Walks.{meeting_start, meeting-small, meeting_more, meeting_end}
 use Rattle.std.proofs.Common.{rules}
 use Rattle.lookup.proofs.meet.Goals as goal
 
-pub loop-left-init : goal.loop-left-init
-loop-left-init c = search (rules, meeting_start)
+pub loop-i-init : goal.loop-i-init
+loop-i-init c = search (rules, meeting_start, length-spaced)
 
-pub overflow_mul-left : goal.overflow_mul-left
-overflow_mul-left c = search (rules, before-fits)
+pub meet_value-met-requires-clause-count_bound : goal.meet_value-met-requires-clause-count_bound
+meet_value-met-requires-clause-count_bound c = search (rules, meeting-small, length-spaced)
 
-pub overflow_add-values : goal.overflow_add-values
-overflow_add-values c = search (rules, before-near)
-
-pub value_at-x-requires : goal.value_at-x-requires
-value_at-x-requires c = search (rules, before-reached)
-
-pub loop-left-preserved : goal.loop-left-preserved
-loop-left-preserved c = search (rules, meeting_more)
+pub loop-i-preserved : goal.loop-i-preserved
+loop-i-preserved c = search (rules, meeting_more)
 
 pub returns : goal.returns
 returns c = search (rules, meeting_end)

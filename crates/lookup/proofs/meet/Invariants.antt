@@ -1,12 +1,7 @@
--- `lookup::meet` meets its contract. The values from the last on were looked up.
-use Prim.Native.Nat.{◌+◌, ◌≤◌}
+-- The values from the last on were looked up.
+use Rattle.columns.specs.Values.{values_in}
 use Rattle.lookup.proofs.Walks.{Meeting}
 use Rattle.lookup.proofs.meet.Given as goal
 
-abbrev pub invariant-loop-left : goal.invariant-loop-left
-invariant-loop-left l =
-    (l.met.count + l.left ≤ l.values.count)
-    × Meeting l.cells l.values l.list l.initial.marks l.stamp l.marks l.left l.met
-
-abbrev pub decreases-loop-left : goal.decreases-loop-left
-decreases-loop-left l = l.left
+abbrev pub invariant-loop-i : goal.invariant-loop-i
+invariant-loop-i l = Meeting (values_in l.values) l.list l.initial.marks l.stamp l.marks l.i l.met

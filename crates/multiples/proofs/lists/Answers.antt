@@ -1,10 +1,12 @@
--- `multiples::lists` meets its contract. Both have a row.
-use Rattle.multiples.proofs.Laws.{listed_second, listed-none}
-use Rattle.std.proofs.Common.{rules}
+use Rattle.std.proofs.Common.{arith}
+use Rattle.std.proofs.lemmas.Grind.{common_steps}
+use Rattle.pairing.specs.Multiples.{has_row, listed}
 use Rattle.multiples.proofs.lists.Goals as goal
 
-pub returns-then-has_row : goal.returns-then-has_row
-returns-then-has_row c = search (rules, listed_second)
+pub returns-then-contains : goal.returns-then-contains
+unfolding listed has_row
+returns-then-contains c = grind (arith, common_steps)
 
-pub returns-else-has_row : goal.returns-else-has_row
-returns-else-has_row c = search (rules, listed-none)
+pub returns-else-contains : goal.returns-else-contains
+unfolding listed has_row
+returns-else-contains c = grind (arith, common_steps)

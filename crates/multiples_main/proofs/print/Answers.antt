@@ -1,13 +1,14 @@
-use Rattle.buffer.specs.Laws.{writing_start, writing_more}
-use Rattle.multiples_main.proofs.Laws.{rows_more, printed, printed-inside, printed-counts}
+-- `multiples_main::print` meets its contract. There is room for the text.
+use Rattle.buffer.specs.Laws.{written_all}
+use Rattle.multiples_main.proofs.Laws.{printed, printed-inside, printed-counts}
 use Rattle.std.proofs.Common.{rules}
 use Rattle.multiples_main.proofs.print.Goals as goal
 
-pub loop-left-init : goal.loop-left-init
-loop-left-init c = search (rules, writing_start)
+pub returns-clause-printed : goal.returns-clause-printed
+returns-clause-printed c = search (rules, written_all, printed)
 
-pub loop-left-preserved : goal.loop-left-preserved
-loop-left-preserved c = search (rules, writing_more, rows_more)
+pub returns-clause-inside : goal.returns-clause-inside
+returns-clause-inside c = printed-inside {o = c.args.buffer.now} (search (rules, written_all)) (search rules)
 
-pub returns : goal.returns
-returns c = search (rules, printed, printed-inside, printed-counts)
+pub returns-clause-counts : goal.returns-clause-counts
+returns-clause-counts c = printed-counts {o = c.args.buffer.now} (search (rules, written_all)) (search rules)

@@ -1,16 +1,13 @@
-use Rattle.buffer.specs.Laws.{writing_start, writing_more, writing-all, writing-long}
+use Rattle.buffer.specs.Laws.{writing_start, writing_more, writing_all}
 use Rattle.numerals.proofs.Writing.{lines_more, lines_none}
 use Rattle.std.proofs.Common.{rules}
 use Rattle.numerals.proofs.push_lines.Goals as goal
 
-pub loop-left-init : goal.loop-left-init
-loop-left-init c = search (rules, writing_start)
+pub loop-init : goal.loop-init
+loop-init c = search (rules, writing_start)
 
-pub loop-left-preserved : goal.loop-left-preserved
-loop-left-preserved c = search (rules, writing_more, lines_more)
-
-pub shape_of-out : goal.shape_of-out
-shape_of-out c = search (rules, writing-long)
+pub loop-preserved : goal.loop-preserved
+loop-preserved c = search (rules, writing_more, lines_more)
 
 pub returns : goal.returns
-returns c = search (rules, writing-all, lines_none)
+returns c = search (rules, writing_all, lines_none)

@@ -1,19 +1,32 @@
 use Rattle.blocks.specs.Standing.{standing-start, standing_here, standing-inside, standing-more}
 use Rattle.playing.proofs.Walk.{preds-start, preds-next, preds-end}
-use Rattle.std.proofs.Common.{rules}
+use Rattle.std.proofs.Common.{arith, refl}
 use Rattle.playing.proofs.preds_pass.Goals as goal
 
-pub loop-left-init : goal.loop-left-init
-loop-left-init c = search (rules, standing-start, preds-start)
+pub loop-i-init : goal.loop-i-init
+loop-i-init c = record {
+  standing = standing-start _ _ _ _ _ _ c.requires.populated c.args.blocks.now.located c.first_pred-line.ensures.value (omega arith)
+      c.type_count-types.ensures.value (omega arith);
+  left = preds-start _ _ _ _ _ _ _ c.requires.fresh c.args.blocks.now.located c.first_pred-line.ensures.value (omega arith)
+      c.type_count-types.ensures.value (omega arith);
+}
 
 pub roles_pass-requires-clause-pred_here : goal.roles_pass-requires-clause-pred_here
-roles_pass-requires-clause-pred_here c = search (rules, standing_here)
+roles_pass-requires-clause-pred_here c =
+    standing_here _ _ _ _ _ _ c.loop-i.invariant.standing (omega (arith, c.loop-i-test.true, c.pred_count-i-end.ensures.value)) refl
 
-pub next_pred-pred-requires-clause-t_in_bounds : goal.next_pred-pred-requires-clause-t_in_bounds
-next_pred-pred-requires-clause-t_in_bounds c = search (rules, standing-inside)
+pub next_pred-line-requires-clause-t_in_bounds : goal.next_pred-line-requires-clause-t_in_bounds
+next_pred-line-requires-clause-t_in_bounds c =
+    standing-inside _ _ _ _ _ _ c.loop-i.invariant.standing (omega (arith, c.loop-i-test.true, c.pred_count-i-end.ensures.value))
 
-pub loop-left-preserved : goal.loop-left-preserved
-loop-left-preserved c = (search rules, search (rules, standing-more), search (rules, preds-next))
+pub loop-i-preserved : goal.loop-i-preserved
+loop-i-preserved c = record {
+  standing = standing-more _ _ _ _ _ _ c.loop-i.invariant.standing (omega (arith, c.loop-i-test.true, c.pred_count-i-end.ensures.value))
+      c.next_pred-line.ensures (omega arith) (omega arith);
+  left = preds-next _ _ _ _ _ _ _ _ _ _ _ _ _ c.loop-i.invariant.left c.roles_pass.ensures c.loop-i.invariant.standing
+      (omega (arith, c.loop-i-test.true, c.pred_count-i-end.ensures.value)) c.next_pred-line.ensures (omega arith) (omega arith) (omega arith);
+}
 
 pub returns : goal.returns
-returns c = search (rules, preds-end)
+returns c =
+    preds-end _ _ _ _ _ _ _ _ _ _ _ _ _ c.loop-i.invariant.left (omega (arith, c.loop-i-test.false, c.pred_count-i-end.ensures.value))

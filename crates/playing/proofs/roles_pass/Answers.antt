@@ -1,16 +1,16 @@
-use Rattle.blocks.specs.Standing.{column-reached}
 use Rattle.playing.proofs.Walk.{roles-start, roles_more, roles-end}
-use Rattle.std.proofs.Common.{rules}
+use Rattle.std.proofs.Common.{arith, refl}
 use Rattle.playing.proofs.roles_pass.Goals as goal
 
 pub loop-j-init : goal.loop-j-init
-loop-j-init c = search (rules, roles-start)
-
-pub role_pass-requires-clause-reached : goal.role_pass-requires-clause-reached
-role_pass-requires-clause-reached c = search (rules, column-reached)
+loop-j-init c =
+    roles-start _ _ _ _ _ _ _ _ _ _ c.requires.fresh c.width-w.ensures.value_2 (omega (arith, c.roles_at-first.ensures)) (omega arith)
 
 pub loop-j-preserved : goal.loop-j-preserved
-loop-j-preserved c = (search rules, search rules, search rules, search (rules, roles_more))
+loop-j-preserved c =
+    roles_more _ _ _ _ _ _ _ _ _ _ _ _ _ _ _ c.loop-j.invariant c.width-w.ensures.value c.role_pass.ensures c.loop-j-test.true
+    c.column-values.ensures (omega arith) (omega arith)
 
 pub returns : goal.returns
-returns c = search (rules, roles-end)
+returns c =
+    roles-end _ _ _ _ _ _ _ _ _ _ _ _ _ _ _ c.loop-j.invariant c.width-w.ensures.value c.requires.pred_here c.loop-j-test.false c.loop-j.auto.j-end refl

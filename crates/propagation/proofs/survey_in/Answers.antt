@@ -1,20 +1,19 @@
 -- `propagation::survey_in` meets its contract. A table that is refused, or the limits of its diagram.
-use Rattle.propagation.proofs.Problems.{limits_within, limits-front, limits-closed}
+use Rattle.std.proofs.lemmas.Result.{err_from_is_err_and}
+use Rattle.propagation.proofs.Problems.{limits_within, limits-closed}
 use Rattle.propagation.proofs.Answers.{survey-refused, survey-told}
-use Rattle.std.proofs.Common.{rules}
 use Rattle.propagation.proofs.survey_in.Goals as goal
 
-pub slice_bounds-survey_front-end : goal.slice_bounds-survey_front-end
-slice_bounds-survey_front-end c = search (rules, limits_within)
+pub returns-in_err-sets : goal.returns-in_err-sets
+returns-in_err-sets c =
+    let p = err_from_is_err_and c.from_residual.result c.from_residual.ensures.1 in
+    rw (p.1, p.2) (survey-refused _ c.pose.ensures c.in_err-sets.was _)
 
-pub slice_bounds-survey_front-end-in-Ready : goal.slice_bounds-survey_front-end-in-Ready
-slice_bounds-survey_front-end-in-Ready c = search (rules, limits-front)
+pub limits-requires : goal.limits-requires
+limits-requires c = limits_within c.pose.ensures c.in_ok-sets.was
 
 pub survey_front-requires : goal.survey_front-requires
-survey_front-requires c = search (rules, limits-closed)
+survey_front-requires c = limits-closed c.pose.ensures c.in_ok-sets.was c.limits.result c.limits.ensures.limits c.limits.ensures.operands
 
-pub returns-in-Refused : goal.returns-in-Refused
-returns-in-Refused c = search (rules, survey-refused)
-
-pub returns-in-Ready : goal.returns-in-Ready
-returns-in-Ready c = search (rules, survey-told)
+pub returns : goal.returns
+returns c = survey-told _ c.pose.ensures c.in_ok-sets.was c.limits.result c.limits.ensures.limits c.limits.ensures.operands _ c.survey_front.ensures

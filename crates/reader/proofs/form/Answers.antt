@@ -1,10 +1,11 @@
--- `reader::form` meets its contract.
-use Rattle.reader.proofs.Answers.{form-refused, form-accepted}
-use Rattle.std.proofs.Common.{rules}
+use Rattle.std.proofs.Common.{rules, ◌≡◌, Err}
+use Rattle.reader.proofs.Answers.{form_refused, form_accepted}
 use Rattle.reader.proofs.form.Goals as goal
 
-pub returns-in-Faulty : goal.returns-in-Faulty
-returns-in-Faulty c = search (rules, form-refused)
+pub returns-in_err-whole : goal.returns-in_err-whole
+returns-in_err-whole c =
+    let refused : c.from_residual.result ≡ Err c.in_err-whole.field-0.0 = search rules in
+    rw refused (form_refused _ _ c.in_err-whole.ensures.result_value_2)
 
-pub returns-in-Whole : goal.returns-in-Whole
-returns-in-Whole c = search (rules, form-accepted)
+pub returns : goal.returns
+returns c = form_accepted _ _ c.in_ok-whole.ensures.result_value_2

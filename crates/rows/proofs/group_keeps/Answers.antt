@@ -1,14 +1,14 @@
--- `rows::group_keeps` meets its contract. The keys are the combinations in the group's columns.
+-- The keys are the combinations in the group's columns.
 use Rattle.order.specs.Parts.{part-long}
 use Rattle.rows.proofs.Groups.{own-keyed, group-is}
 use Rattle.std.proofs.Common.{rules}
 use Rattle.rows.proofs.group_keeps.Goals as goal
 
-pub slice_bounds-occurring-end : goal.slice_bounds-occurring-end
-slice_bounds-occurring-end c = search (rules, part-long)
+pub slice_bounds-keys-end : goal.slice_bounds-keys-end
+slice_bounds-keys-end c = search (rules, part-long)
 
-pub occurring-requires : goal.occurring-requires
-occurring-requires c = search (rules, own-keyed)
+pub invariant_of-keys : goal.invariant_of-keys
+invariant_of-keys c = search (rules, own-keyed)
 
 pub returns : goal.returns
 returns c = search (rules, group-is)

@@ -1,14 +1,14 @@
--- `rows::pass` meets its contract. What was noted and the predicates left come to all.
-use mathlib.Core.Path.{◌≡◌}
-use lib.ListN.{length}
+-- What was noted and the predicates left come to all.
+use Rattle.std.proofs.Common.{◌≡◌, ◌+◌, ◌-◌, length}
+use Rattle.table.specs.Positions.{pred_count}
 use Rattle.rows.proofs.Passing.{Noting}
 use Rattle.rows.proofs.pass.Given as goal
 
-abbrev pub invariant-loop-left : goal.invariant-loop-left
-invariant-loop-left l =
-    (length l.list ≡ length l.initial.list)
-    × (length l.spare ≡ length l.initial.spare)
-    × Noting l.t l.cells l.starts l.initial.lowest l.lowest l.pred l.k l.own l.left
-
-abbrev pub decreases-loop-left : goal.decreases-loop-left
-decreases-loop-left l = l.left
+abbrev pub invariant-loop-i : goal.invariant-loop-i
+invariant-loop-i l =
+    record {
+      list : length l.list ≡ length l.initial.list;
+      spare : length l.spare ≡ length l.initial.spare;
+      left : Noting l.blocks.table.now l.blocks.cells.now l.blocks.starts.now l.initial.faults.lowest l.faults.lowest l.pred (l.types + l.i) (l.i + 1)
+          (pred_count l.blocks.table.now - l.i);
+    }

@@ -3,5 +3,5 @@ use Rattle.runs.proofs.Walked.{loose}
 use Rattle.std.proofs.Common.{rules}
 use Rattle.runs.proofs.occurring.Goals as goal
 
-pub returns-then-rows-index : goal.returns-then-rows-index
-returns-then-rows-index c = search (rules, loose)
+pub returns-then-keys-high : goal.returns-then-keys-high
+returns-then-keys-high c = search (rules, loose)

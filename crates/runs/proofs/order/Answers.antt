@@ -7,9 +7,6 @@ use Rattle.runs.proofs.order.Goals as goal
 pub returns-then-count-le16 : goal.returns-then-count-le16
 returns-then-count-le16 c = search (rules, ready_not)
 
-pub returns-then-list-count : goal.returns-then-list-count
-returns-then-list-count c = search (rules, ready_not)
-
 pub slice_bounds-sort-end-2 : goal.slice_bounds-sort-end-2
 slice_bounds-sort-end-2 c = search (rules, part-long)
 

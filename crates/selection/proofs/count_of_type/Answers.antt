@@ -1,9 +1,9 @@
-use Rattle.selection.specs.Laws.Selects.{counting_more, counting_all}
-use Rattle.std.proofs.Common.{rules}
+use Rattle.std.proofs.Common.{rules, ◌≡◌, ◌∙◌}
+use Rattle.std.specs.Prelude.{count_by, nat_eq}
+use Rattle.selection.specs.Laws.Upto.{positions_counted}
 use Rattle.selection.proofs.count_of_type.Goals as goal
 
-pub loop-i-preserved : goal.loop-i-preserved
-loop-i-preserved c = search (rules, counting_more)
-
 pub returns : goal.returns
-returns c = search (rules, counting_all)
+returns c =
+    let counted : c.count.result ≡ count_by (λ x. nat_eq x c.args.number) c.args.types.now = search rules in
+    counted ∙ positions_counted c.args.number 0 c.args.types.now

@@ -1,12 +1,10 @@
-use Rattle.selection.specs.Laws.Selects.{grouped-start, grouped-more, grouped-all}
-use Rattle.std.proofs.Common.{rules}
+use Rattle.std.proofs.Common.{arith}
+use Rattle.std.proofs.lemmas.Grind.{common_steps}
+use Rattle.selection.specs.Laws.Upto.{in_group_none, in_group_more, in_group_same}
 use Rattle.selection.proofs.count_roles.Goals as goal
 
-pub loop-left-init : goal.loop-left-init
-loop-left-init c = search (rules, grouped-start)
+pub loop-i-init : goal.loop-i-init
+loop-i-init c = grind (arith, common_steps, in_group_none)
 
-pub loop-left-preserved : goal.loop-left-preserved
-loop-left-preserved c = search (rules, grouped-more)
-
-pub returns : goal.returns
-returns c = search (rules, grouped-all)
+pub loop-i-preserved : goal.loop-i-preserved
+loop-i-preserved c = grind (arith, common_steps, in_group_more, in_group_same)

@@ -1,16 +1,14 @@
-use Rattle.buffer.specs.Laws.{writing_start, writing_more, writing-all, writing-long}
-use Rattle.selection.specs.Laws.Selects.{in_group-more, in_group-none}
-use Rattle.std.proofs.Common.{rules}
+use Rattle.std.proofs.Common.{arith}
+use Rattle.std.proofs.lemmas.Grind.{common_steps}
+use Rattle.selection.specs.Laws.Upto.{in_group_none, in_group_more, in_group_same}
+use Rattle.selection.proofs.push_roles.Goals.{then-number, else-number}
 use Rattle.selection.proofs.push_roles.Goals as goal
 
-pub loop-left-init : goal.loop-left-init
-loop-left-init c = search (rules, writing_start)
+pub loop-i-init : goal.loop-i-init
+loop-i-init c = grind (arith, common_steps, in_group_none)
 
-pub loop-left-preserved : goal.loop-left-preserved
-loop-left-preserved c = search (rules, writing_more, in_group-more)
-
-pub shape_of-out : goal.shape_of-out
-shape_of-out c = search (rules, writing-long)
-
-pub returns : goal.returns
-returns c = search (rules, writing-all, in_group-none)
+pub loop-i-preserved : goal.loop-i-preserved
+loop-i-preserved c = elim c.if-number.branch [
+  | then-number w ↦ grind (arith, common_steps, in_group_more)
+  | else-number w ↦ grind (arith, common_steps, in_group_same)
+]

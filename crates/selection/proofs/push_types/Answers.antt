@@ -1,16 +1,10 @@
-use Rattle.buffer.specs.Laws.{writing_start, writing_more, writing-all, writing-long}
-use Rattle.selection.specs.Laws.Types.{numbers_more, numbers-none}
-use Rattle.std.proofs.Common.{rules}
+use Rattle.std.proofs.Common.{arith}
+use Rattle.std.proofs.lemmas.Grind.{common_steps}
+use Rattle.selection.specs.Laws.Upto.{roles_none, roles_next}
 use Rattle.selection.proofs.push_types.Goals as goal
 
-pub loop-left-init : goal.loop-left-init
-loop-left-init c = search (rules, writing_start)
+pub loop-i-init : goal.loop-i-init
+loop-i-init c = grind (arith, common_steps, roles_none)
 
-pub loop-left-preserved : goal.loop-left-preserved
-loop-left-preserved c = search (rules, writing_more, numbers_more)
-
-pub shape_of-out : goal.shape_of-out
-shape_of-out c = search (rules, writing-long)
-
-pub returns : goal.returns
-returns c = search (rules, writing-all, numbers-none)
+pub loop-i-preserved : goal.loop-i-preserved
+loop-i-preserved c = grind (arith, common_steps, roles_next)

@@ -1,16 +1,10 @@
-use Rattle.buffer.specs.Laws.{writing_start, writing_more, writing-all, writing-long}
-use Rattle.selection.specs.Laws.Selects.{up_more, up_none}
-use Rattle.std.proofs.Common.{rules}
+use Rattle.std.proofs.Common.{arith}
+use Rattle.std.proofs.lemmas.Grind.{common_steps}
+use Rattle.selection.specs.Laws.Upto.{up_from_none, up_from_more}
 use Rattle.selection.proofs.push_up.Goals as goal
 
-pub loop-left-init : goal.loop-left-init
-loop-left-init c = search (rules, writing_start)
+pub loop-i-init : goal.loop-i-init
+loop-i-init c = grind (arith, common_steps, up_from_none)
 
-pub loop-left-preserved : goal.loop-left-preserved
-loop-left-preserved c = search (rules, writing_more, up_more)
-
-pub shape_of-out : goal.shape_of-out
-shape_of-out c = search (rules, writing-long)
-
-pub returns : goal.returns
-returns c = search (rules, writing-all, up_none)
+pub loop-i-preserved : goal.loop-i-preserved
+loop-i-preserved c = grind (arith, common_steps, up_from_more)

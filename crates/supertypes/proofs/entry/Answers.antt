@@ -1,4 +1,3 @@
--- `supertypes::entry` meets its contract. A type that is not there has none.
 use Rattle.supertypes.specs.Laws.{entry_past, entry-there}
 use Rattle.std.proofs.Common.{rules}
 use Rattle.supertypes.proofs.entry.Goals as goal

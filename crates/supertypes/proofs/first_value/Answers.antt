@@ -1,4 +1,3 @@
--- `supertypes::first_value` meets its contract. It is the root's FIRST.
 use Rattle.supertypes.proofs.Climbs.{first-value-is}
 use Rattle.std.proofs.Common.{rules}
 use Rattle.supertypes.proofs.first_value.Goals as goal

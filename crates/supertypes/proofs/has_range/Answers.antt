@@ -1,4 +1,3 @@
--- `supertypes::has_range` meets its contract. The first number that tells decides.
 use Rattle.supertypes.specs.Laws.{range_root, range_first, range_last}
 use Rattle.std.proofs.Common.{rules}
 use Rattle.supertypes.proofs.has_range.Goals as goal

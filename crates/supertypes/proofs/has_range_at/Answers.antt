@@ -1,4 +1,3 @@
--- `supertypes::has_range_at` meets its contract. A type that is not there is a root.
 use Rattle.supertypes.specs.Laws.{range_past, range_there}
 use Rattle.std.proofs.Common.{rules}
 use Rattle.supertypes.proofs.has_range_at.Goals as goal

@@ -102,6 +102,10 @@ module _ (t : List ℕ) (at n : ℕ) where
   pub ahead_more : {e : ℕ} → Ahead t at n → 0 < n → e ≡ at + pred_length (drop at t) → Ahead t e (n - 1)
   ahead_more a h q = record { inside = rw q (omega (arith, a.inside, ahead-is t at n h)) }
 
+-- the same, of `n` of which `i` are passed
+pub ahead_on : (t : List ℕ) (at n i : ℕ) {e : ℕ} → Ahead t at (n - i) → i < n → e ≡ at + pred_length (drop at t) → Ahead t e (n - (i + 1))
+ahead_on t at n i a h q = let one : n - i - 1 ≡ n - (i + 1) = omega arith in rw one at (ahead_more t at (n - i) a (omega arith) q)
+
 -- ---- the number of roles, and of groups: those of the predicate here and those behind it come to those ahead
 
 -- the items of the predicates; `f` is `roles` or `groups`, and their number stands at `i`
@@ -147,3 +151,10 @@ module _ (t : List ℕ) (at n m : ℕ) (left : RolesLeft t at n m) where
 
   pub roles-few : Walkable t → n ≤ 0 → m ≤ 96
   roles-few w h = omega (arith, roles-all h, w.few_roles)
+
+-- of `n` predicates `i` are passed
+pub roles_on : (t : List ℕ) (at n i m : ℕ) {e r : ℕ} → RolesLeft t at (n - i) m → i < n → e ≡ at + pred_length (drop at t)
+    → r ≡ get_or (drop at t) 2 0 → RolesLeft t e (n - (i + 1)) (m + r)
+roles_on t at n i m {e} {r} left h q p =
+    let one : n - i - 1 ≡ n - (i + 1) = omega arith in
+    rw one at (roles_more t at (n - i) m left (omega arith) q p)

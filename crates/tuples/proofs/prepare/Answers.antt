@@ -1,13 +1,13 @@
--- `tuples::prepare` meets its contract. The first set is taken as it is.
-use Rattle.tuples.proofs.Prepared.{item_small, no_steps, steps-is}
-use Rattle.std.proofs.Common.{rules}
+use Rattle.std.proofs.Common.{arith}
+use Rattle.std.proofs.lemmas.Grind.{common_steps}
+use Rattle.tuples.specs.StepsLaws.{steps_none, steps_first, small_rest}
 use Rattle.tuples.proofs.prepare.Goals as goal
 
-pub returns-then-count-eq0 : goal.returns-then-count-eq0
-returns-then-count-eq0 c = search (rules, no_steps)
+pub returns-then-is_empty : goal.returns-then-is_empty
+returns-then-is_empty c = grind (arith, common_steps, steps_none)
 
-pub push_steps-requires-clause-n_bound : goal.push_steps-requires-clause-n_bound
-push_steps-requires-clause-n_bound c = search (rules, item_small)
+pub push_steps-requires-clause-small : goal.push_steps-requires-clause-small
+push_steps-requires-clause-small c = small_rest c.args.sizes.now c.requires.small
 
 pub returns : goal.returns
-returns c = search (rules, steps-is)
+returns c = grind (arith, common_steps, steps_first)

@@ -1,20 +1,18 @@
-use Rattle.buffer.specs.Laws.{writing_start, writing_more, writing-all, writing-long}
-use Rattle.tuples.specs.Nested.{each-steps-more, each-steps-none}
-use Rattle.tuples.proofs.Sided.{want-small}
-use Rattle.std.proofs.Common.{rules}
+use Rattle.std.proofs.Common.{rules, arith}
+use Rattle.std.proofs.lemmas.Grind.{common_steps}
+use Rattle.tuples.specs.NestedLaws.{steps_of_each_none, sum_next, sum_fits, each_more}
+use Rattle.tuples.proofs.Writes.{wrote_more}
 use Rattle.tuples.proofs.prepare_each.Goals as goal
 
-pub loop-i-init : goal.loop-i-init
-loop-i-init c = search (rules, writing_start)
+pub loop-n-init : goal.loop-n-init
+loop-n-init c = record { wrote = grind (arith, common_steps, steps_of_each_none); from = search rules }
 
-pub prepare-to-requires-clause-want_bound : goal.prepare-to-requires-clause-want_bound
-prepare-to-requires-clause-want_bound c = search (rules, want-small)
+pub slice_bounds-prepare-end : goal.slice_bounds-prepare-end
+slice_bounds-prepare-end c = search (rules, sum_fits)
 
-pub loop-i-preserved : goal.loop-i-preserved
-loop-i-preserved c = search (rules, writing_more, each-steps-more)
-
-pub shape_of-out : goal.shape_of-out
-shape_of-out c = search (rules, writing-long)
-
-pub returns : goal.returns
-returns c = search (rules, writing-all, each-steps-none)
+pub loop-n-preserved : goal.loop-n-preserved
+loop-n-preserved c = record {
+  wrote = wrote_more c.loop-n.invariant.wrote c.prepare.ensures
+      (each_more c.args.counts.now c.loop-n.invariant.from (omega arith) c.args.wants.now c.args.sizes.now c.loop-n-test.true);
+  from = search (rules, sum_next);
+}

@@ -1,24 +1,19 @@
-use Rattle.tuples.specs.Stored.{storing_start, storing_long, no_tuple, tuple_next, tuple_end, tuple_room, tuple_low}
-use Rattle.std.proofs.Common.{rules}
+use Rattle.std.proofs.Common.{rules, arith, length, ◌≤◌, ◌<◌}
+use Rattle.tuples.specs.StoredLaws.{walked_none, walked_more, walked_empty, walked_all}
 use Rattle.tuples.proofs.tuple.Goals as goal
 
-pub returns-then-count-eq0 : goal.returns-then-count-eq0
-returns-then-count-eq0 c = search (rules, no_tuple)
-
 pub loop-j-init : goal.loop-j-init
-loop-j-init c = search (rules, storing_start)
-
-pub step-x-requires : goal.step-x-requires
-step-x-requires c = search (rules, tuple_room)
+loop-j-init c = record { walked = walked_none c.args.steps.now c.args.i c.args.to c.args.out.now (omega arith); small = omega arith; long = search rules; first = λ h. h }
 
 pub loop-j-preserved : goal.loop-j-preserved
-loop-j-preserved c = search (rules, tuple_next)
+loop-j-preserved c = record { walked = walked_more c.args.steps.now c.args.i c.args.to c.args.out.now c.loop-j.invariant.walked c.loop-j-test.true c.loop-j.auto.j _ c.split-before.ensures.before c.split-before.ensures.entry; small = search rules; long = search rules; first = λ h. omega arith }
 
-pub bounds-out-to : goal.bounds-out-to
-bounds-out-to c = search (rules, tuple_low)
+pub returns-then-not-is_empty : goal.returns-then-not-is_empty
+returns-then-not-is_empty c =
+    let some : 0 < length c.args.steps.now = search rules in
+    walked_all c.args.steps.now c.args.i c.args.to c.args.out.now c.loop-j.invariant.walked some (c.loop-j.invariant.first (omega arith)) (search rules)
 
-pub shape_of-out : goal.shape_of-out
-shape_of-out c = search (rules, storing_long)
-
-pub returns : goal.returns
-returns c = search (rules, tuple_end)
+pub returns-else-not-is_empty : goal.returns-else-not-is_empty
+returns-else-not-is_empty c =
+    let none : length c.args.steps.now ≤ 0 = search rules in
+    walked_empty c.args.steps.now c.args.i c.args.to c.args.out.now c.loop-j.invariant.walked none

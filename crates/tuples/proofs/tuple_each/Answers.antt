@@ -1,22 +1,22 @@
-use Rattle.tuples.specs.Stored.{storing_start, storing_long}
-use Rattle.tuples.proofs.Sided.{index-fits, sided_more, sided_count, sided_spanned, sided_all, sided_length}
-use Rattle.std.proofs.Common.{rules}
+use Rattle.std.proofs.Common.{rules, arith}
+use Rattle.tuples.specs.StoredLaws.{stored_more, stored_none, stored-long}
+use Rattle.tuples.specs.NestedLaws.{tuples_none, sum_next, sum_fits, tuples_more, tuples_long, tuples_all}
 use Rattle.tuples.proofs.tuple_each.Goals as goal
 
 pub loop-n-init : goal.loop-n-init
-loop-n-init c = search (rules, storing_start)
+loop-n-init c = record { stored = grind (arith, tuples_none, stored_none); at = search rules }
 
-pub tuple-requires-clause-spanned : goal.tuple-requires-clause-spanned
-tuple-requires-clause-spanned c = search (rules, sided_spanned)
-
-pub tuple-requires-clause-i_bound : goal.tuple-requires-clause-i_bound
-tuple-requires-clause-i_bound c = search (rules, index-fits)
+pub tuple-requires-clause-room : goal.tuple-requires-clause-room
+tuple-requires-clause-room c = search (rules, sum_fits, stored-long)
 
 pub loop-n-preserved : goal.loop-n-preserved
-loop-n-preserved c = search (rules, sided_more, sided_count)
+loop-n-preserved c = record {
+  stored = stored_more c.loop-n.invariant.stored c.tuple.ensures
+      (tuples_long c.args.steps.now c.args.counts.now c.args.rows.now c.loop-n.invariant.at (omega arith) (omega arith) (omega arith))
+      (tuples_more c.args.counts.now c.loop-n.invariant.at (omega arith) c.args.steps.now c.args.rows.now c.loop-n-test.true);
+  at = search (rules, sum_next);
+}
 
-pub shape_of-out : goal.shape_of-out
-shape_of-out c = search (rules, storing_long)
-
-pub returns : goal.returns
-returns c = search (rules, sided_all, sided_length)
+pub returns-clause-value : goal.returns-clause-value
+returns-clause-value c =
+    tuples_all c.args.steps.now c.args.counts.now c.args.rows.now c.loop-n.invariant.at (omega arith) (omega arith) (omega arith) (omega arith)

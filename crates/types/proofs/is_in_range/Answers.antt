@@ -6,8 +6,8 @@ use Rattle.types.proofs.is_in_range.Goals as goal
 pub returns-then-not-has_range : goal.returns-then-not-has_range
 returns-then-not-has_range c = search (rules, range_none)
 
-pub returns-then-list-eq0 : goal.returns-then-list-eq0
-returns-then-list-eq0 c = search (rules, range_empty)
+pub returns-then-is_empty : goal.returns-then-is_empty
+returns-then-is_empty c = search (rules, range_empty)
 
 pub returns : goal.returns
 returns c = search (rules, range_ends)

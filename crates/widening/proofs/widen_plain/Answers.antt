@@ -1,16 +1,6 @@
--- `widening::widen_plain` meets its contract.
-use Rattle.widening.specs.Laws.Writes.{start-room, first_fits, last-room, plain-wrote}
-use Rattle.std.proofs.Common.{rules}
+use Rattle.buffer.specs.Laws.{wrote_then, wrote_as}
+use Rattle.widening.specs.Laws.Writes.{plain_put}
 use Rattle.widening.proofs.widen_plain.Goals as goal
 
-pub copy-behind-requires : goal.copy-behind-requires
-copy-behind-requires c = search (rules, start-room)
-
-pub push_preds-end-requires : goal.push_preds-end-requires
-push_preds-end-requires c = search (rules, first_fits)
-
-pub copy-requires : goal.copy-requires
-copy-requires c = search (rules, last-room)
-
 pub returns : goal.returns
-returns c = search (rules, plain-wrote)
+returns c = wrote_as (wrote_then (wrote_then c.append.ensures c.push_preds.ensures) c.append-2.ensures) (plain_put _ _ _ c.requires)

@@ -1,5 +1,5 @@
 -- What a caller knows of a table that was refused or accepted.
-use Rattle.std.specs.Prelude.{ℕ, ◌≤◌, ◌≡◌, refl, List, ◌++◌, length, take, drop}
+use Rattle.std.specs.Prelude.{ℕ, ◌≤◌, ◌≡◌, refl, List, ◌++◌, length, take, drop, Result, Ok, Err}
 use Rattle.std.proofs.Common.{arith, sym, ◌∙◌, length-append, take_at, length-take-le}
 use Rattle.std.proofs.Math.Path.{ap}
 use Rattle.orm.specs.Diagram.{Diagram, totals}
@@ -8,13 +8,12 @@ use Rattle.orm.specs.Outcome.{Outcome, refused, accepted, ◌>>=◌, buffer_afte
 use Rattle.orm.specs.Calls.{diagram_in}
 use Rattle.reading.specs.Laws.{table-accepted-iff}
 use Rattle.reading.specs.WideTable.{wide_table}
-use Rattle.grammar.specs.declared.Fault.{Fault}
-use Rattle.grammar.specs.Fault.{number_of}
+use Rattle.refusals.specs.Refusal.{refusal_of}
+use Rattle.refusals.specs.declared.Refusal.{Refusal}
 use Rattle.table.specs.Positions.{diagram_of}
 use Rattle.table.specs.Laws.WideTable.{wide_back}
 use Rattle.table.specs.Laws.Valid.{wide-valid}
-use Rattle.widening.specs.declared.Acceptance.{Acceptance}
-use Rattle.widening.specs.declared.Acceptance.TheVariants.{Refused, Widened}
+use Rattle.widening.specs.declared.Widened.{Widened}
 use Rattle.widening.specs.Answer.{Described, described, acceptance_of, widened, Accepted}
 
 -- ---- an outcome of which something is told
@@ -35,26 +34,26 @@ module _ {A B : Type 0} (tell : A → B) where
 
 -- ---- refused
 
-module _ (t : List ℕ) {r : Acceptance} {f : Fault} {line : ℕ} (p : r ≡ Refused f line)
+module _ (t : List ℕ) {r : Result Widened Refusal} {x : Refusal} (p : r ≡ Err x)
     (e : acceptance_of r ≡ described (diagram_in table_line t)) where
-  pub accepted-refused : diagram_in table_line t ≡ refused (number_of f) line 0
+  pub accepted-refused : diagram_in table_line t ≡ refusal_of x
   accepted-refused =
       told-refused (λ (d : Diagram). record { wide_length = length (wide_table d); totals = totals d }) (diagram_in table_line t)
       (sym (ap acceptance_of p) ∙ e)
 
 -- ---- accepted
 
-module _ (t w : List ℕ) {w' : List ℕ} {r : Acceptance} {n types preds roles groups : ℕ} (p : r ≡ Widened n types preds roles groups)
+module _ (t w : List ℕ) {w' : List ℕ} {r : Result Widened Refusal} {v : Widened} (p : r ≡ Ok v)
     (e : acceptance_of r ≡ described (diagram_in table_line t)) (q : w' ≡ buffer_after (widened t) w) where
   tell : Diagram → Described
   tell d = record { wide_length = length (wide_table d); totals = totals d }
 
   told : Told tell (diagram_in table_line t)
-      (record { wide_length = n; totals = record { types = types; preds = preds; roles = roles; groups = groups } })
+      (record { wide_length = v.length; totals = record { types = v.types; preds = v.preds; roles = v.roles; groups = v.groups } })
   unfolding tell
   told = told-accepted tell (diagram_in table_line t) (sym (ap acceptance_of p) ∙ e)
 
-  long : length (wide_table told.of) ≡ n
+  long : length (wide_table told.of) ≡ v.length
   unfolding tell
   long = ap (λ (x : Described). x.wide_length) told.is
 
@@ -62,20 +61,20 @@ module _ (t w : List ℕ) {w' : List ℕ} {r : Acceptance} {n types preds roles 
   unfolding buffer_after
   whole = q ∙ ap (λ (o : Outcome Diagram). buffer_after (o >>= λ d. accepted (wide_table d)) w) told.reads
 
-  pub accepted-within : n ≤ length w'
+  pub accepted-within : v.length ≤ length w'
   accepted-within = omega (arith, ap length whole, length-append (wide_table told.of) (drop (length (wide_table told.of)) w), long)
 
-  pub accepted-front : n ≡ length (take n w')
-  accepted-front = sym (length-take-le n w' accepted-within)
+  pub accepted-front : v.length ≡ length (take v.length w')
+  accepted-front = sym (length-take-le v.length w' accepted-within)
 
-  front : take n w' ≡ wide_table told.of
-  front = ap (take n) whole ∙ take_at (wide_table told.of) (drop (length (wide_table told.of)) w) n long
+  front : take v.length w' ≡ wide_table told.of
+  front = ap (take v.length) whole ∙ take_at (wide_table told.of) (drop (length (wide_table told.of)) w) v.length long
 
-  pub accepted_as : Accepted t (take n w') types preds roles groups
+  pub accepted_as : Accepted t (take v.length w') v.types v.preds v.roles v.groups
   unfolding tell
   accepted_as =
       let formed = ((table-accepted-iff t told.of).0 told.reads).1 in
-      let same-d : diagram_of (take n w') ≡ told.of = ap diagram_of front ∙ wide_back told.of formed in
+      let same-d : diagram_of (take v.length w') ≡ told.of = ap diagram_of front ∙ wide_back told.of formed in
       record {
         valid = wide-valid front formed;
         reads = told.reads ∙ ap {B = Outcome Diagram} accepted (sym same-d);

@@ -15,10 +15,10 @@ use Rattle.orm.specs.Diagram.{ObjectType, Role, Frequency, Predicate, Diagram, L
 use Rattle.orm.specs.Diagram.{lines_of_pred, line_of_count, diagram_line, types_line, preds_line, end_line, limits_roles, role_line_of, all_roles, lines, table}
 use Rattle.orm.specs.WellFormed.{WellFormed}
 use Rattle.orm.specs.Form.{role_fields}
-use Rattle.reading.specs.WideTable.{added, wide_line, wide_table, most_numbers}
+use Rattle.reading.specs.WideTable.{added, wide_line, wide_table}
 use Rattle.reading.specs.WideLines.{limited-table}
-use Rattle.reading.proofs.TableLength.{table-length, table-short, wide_short}
-use Rattle.widening.specs.Widened.{roles_widened, groups_behind, pred_fields, pred_widened, preds_fields, preds_widened, plain_fields, plain_widened, table_widened, FitsKind}
+use Rattle.reading.proofs.TableLength.{table-length}
+use Rattle.widening.specs.Widened.{roles_widened, groups_behind, pred_fields, pred_widened, preds_fields, preds_widened, plain_fields, plain_widened, table_widened, Inside}
 
 -- The numbers of some lines, in a file and with role lines of one width
 abbrev narrow : List Line → List ℕ
@@ -279,12 +279,8 @@ module _ (d : Diagram) (w : WellFormed d) {t : List ℕ} {types preds : ℕ} (e 
       go true q = e ∙ sym (limited-table d w (sym kind-is ∙ (unfold limits_roles in eqb-true (get_or t 0 0) 2 q)))
       go false q = plain-wide (unfold limits_roles in eqb-false (get_or t 0 0) 2 q)
 
-  pub table_fits : {o : List ℕ} → length o ≡ most_numbers → FitsKind types preds t o
-  table_fits h = record {
+  pub table_inside : Inside types preds t
+  table_inside = record {
     some = rw e (some-numbers d);
-    limited = λ q. rw e (omega (arith, table-short d w, h));
-    plain = λ n. record {
-      inside = rw (e ∙ ap table (same n), ← et, ← ep) (omega (arith, fields-are d));
-      room = rw (plain-wide n) (omega (arith, wide_short d w, h));
-    };
+    plain = λ n. rw (e ∙ ap table (same n), ← et, ← ep) (omega (arith, fields-are d));
   }

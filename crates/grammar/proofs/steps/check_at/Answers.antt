@@ -1,13 +1,6 @@
--- `grammar::steps::check_at` meets its contract.
-use Rattle.grammar.proofs.Lent.{front-count, front-room, line-length, line_same}
-use Rattle.std.proofs.Common.{rules}
+use Rattle.std.proofs.Common.{arith, ◌≡◌, ◌-◌}
+use Rattle.grammar.specs.Awaited.{fields_at}
 use Rattle.grammar.proofs.steps.check_at.Goals as goal
 
-pub slice_bounds-check_line-end : goal.slice_bounds-check_line-end
-slice_bounds-check_line-end c = search (rules, front-count)
-
-pub check_line-requires : goal.check_line-requires
-check_line-requires c = search (rules, front-room, line-length)
-
 pub returns : goal.returns
-returns c = search (rules, line_same)
+returns c = let fields : c.args.end - c.args.start ≡ fields_at c.args.place = omega arith in rw fields at c.check_line.ensures

@@ -1,15 +1,10 @@
--- `grammar::tests::is_named` meets its contract. The roles from the one at hand on decide as all do.
-use Prim.Native.Nat.{◌+◌, ◌*◌, ◌≤◌}
-use mathlib.Core.Path.{◌≡◌}
-use lib.ListN.{drop}
+-- The roles from the one at hand on decide as all do.
+use Rattle.std.proofs.Common.{◌≡◌, ◌+◌, ◌*◌, ◌-◌, ◌≤◌, drop}
 use Rattle.orm.specs.Form.{named}
 use Rattle.reading.specs.Walk.{roles_at}
 use Rattle.grammar.proofs.tests.is_named.Given as goal
 
-abbrev pub invariant-loop-left : goal.invariant-loop-left
-invariant-loop-left l =
-    (l.at + 6 * l.left ≤ l.first + 6 * l.count)
-    × (named l.group (roles_at l.kind l.left (drop l.at l.numbers)) ≡ named l.group (roles_at l.kind l.count (drop l.first l.numbers)))
-
-abbrev pub decreases-loop-left : goal.decreases-loop-left
-decreases-loop-left l = l.left
+abbrev pub invariant-loop : goal.invariant-loop
+invariant-loop l =
+    (l.at ≤ l.first + 6 * l.counter)
+    × (named l.group (roles_at l.kind (l.count - l.counter) (drop l.at l.numbers)) ≡ named l.group (roles_at l.kind l.count (drop l.first l.numbers)))

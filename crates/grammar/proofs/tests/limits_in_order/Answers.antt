@@ -1,13 +1,12 @@
--- `grammar::tests::limits_in_order` meets its contract. Without limits 1 is not above 4096.
-use Rattle.grammar.proofs.Named.{limits-given, limits-none, limited-third, limited_fourth}
-use Rattle.std.proofs.Common.{rules}
+use Rattle.std.proofs.Common.{rules, arith}
+use Rattle.grammar.proofs.Named.{limits-given, limits-none, limited_long}
 use Rattle.grammar.proofs.tests.limits_in_order.Goals as goal
 
-pub number-requires : goal.number-requires
-number-requires c = search (rules, limited-third)
+pub bounds-line-3 : goal.bounds-line-3
+bounds-line-3 c = omega (arith, limited_long _ c.requires c.if-kind-eq2.true)
 
-pub number-requires-then-kind-eq2 : goal.number-requires-then-kind-eq2
-number-requires-then-kind-eq2 c = search (rules, limited_fourth)
+pub bounds-line-4 : goal.bounds-line-4
+bounds-line-4 c = omega (arith, limited_long _ c.requires c.if-kind-eq2.true)
 
 pub returns-then-kind-eq2 : goal.returns-then-kind-eq2
 returns-then-kind-eq2 c = search (rules, limits-given)

@@ -1,4 +1,3 @@
--- `grammar::tests::values_in_order` meets its contract.
 use Rattle.grammar.proofs.Numbers.{order-none, order_turned, order-root, order-within, types-before}
 use Rattle.std.proofs.Common.{rules}
 use Rattle.grammar.proofs.tests.values_in_order.Goals as goal

@@ -1,15 +1,12 @@
-use Rattle.lexer.proofs.Prefixes.{behind-end, behind-short, behind-other, behind_more}
 use Rattle.std.proofs.Common.{rules}
+use Rattle.lexer.proofs.Prefixes.{found-there, found-other, found-behind}
 use Rattle.lexer.proofs.keys.behind.Goals as goal
 
-pub returns-then-text-at : goal.returns-then-text-at
-returns-then-text-at c = search (rules, behind-short)
+pub returns-in_err-get-clause-value : goal.returns-in_err-get-clause-value
+returns-in_err-get-clause-value c = search (rules, found-behind)
 
-pub returns-then-key-i : goal.returns-then-key-i
-returns-then-key-i c = search (rules, behind-other)
+pub returns-then-starts_with-clause-value : goal.returns-then-starts_with-clause-value
+returns-then-starts_with-clause-value c = search (rules, found-there)
 
-pub loop-i-preserved : goal.loop-i-preserved
-loop-i-preserved c = search (rules, behind_more)
-
-pub returns : goal.returns
-returns c = search (rules, behind-end)
+pub returns-else-starts_with-clause-value : goal.returns-else-starts_with-clause-value
+returns-else-starts_with-clause-value c = search (rules, found-other)

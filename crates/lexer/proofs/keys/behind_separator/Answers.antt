@@ -1,10 +1,12 @@
--- `lexer::keys::behind_separator` meets its contract.
-use Rattle.lexer.proofs.Prefixes.{line_feed, comma}
 use Rattle.std.proofs.Common.{rules}
+use Rattle.lexer.proofs.Prefixes.{byte-behind, byte-there, byte-other}
 use Rattle.lexer.proofs.keys.behind_separator.Goals as goal
 
-pub returns-then-left-eq0 : goal.returns-then-left-eq0
-returns-then-left-eq0 c = search (rules, line_feed, comma)
+pub returns-in_err-get-clause-value : goal.returns-in_err-get-clause-value
+returns-in_err-get-clause-value c = search (rules, byte-behind)
 
-pub returns-else-left-eq0 : goal.returns-else-left-eq0
-returns-else-left-eq0 c = search (rules, line_feed, comma)
+pub returns-then-branch-separator-clause-value : goal.returns-then-branch-separator-clause-value
+returns-then-branch-separator-clause-value c = search (rules, byte-there)
+
+pub returns-else-branch-separator-clause-value : goal.returns-else-branch-separator-clause-value
+returns-else-branch-separator-clause-value c = search (rules, byte-other)

@@ -1,19 +1,27 @@
-use Rattle.lexer.proofs.Fields.{numbers-start, numbers-end, numbers-malformed, numbers-unended, numbers_more}
-use Rattle.lexer.proofs.Fields.{stored-end, stored-malformed, stored-unended}
 use Rattle.std.proofs.Common.{rules}
+use Rattle.lexer.proofs.Fields.{numbers-start, numbers-end, numbers-malformed, numbers-unended, numbers_more, stored-end, stored-malformed, stored-unended}
 use Rattle.lexer.proofs.lines.numbers_at.Goals as goal
 
+pub returns-in_err-number-clause-value : goal.returns-in_err-number-clause-value
+returns-in_err-number-clause-value c = search (rules, numbers-malformed)
+
+pub returns-in_err-number-clause-out_after : goal.returns-in_err-number-clause-out_after
+returns-in_err-number-clause-out_after c = search (rules, stored-malformed)
+
+pub returns-in_err-at-clause-value : goal.returns-in_err-at-clause-value
+returns-in_err-at-clause-value c = search (rules, numbers-unended)
+
+pub returns-in_err-at-clause-out_after : goal.returns-in_err-at-clause-out_after
+returns-in_err-at-clause-out_after c = search (rules, stored-unended)
+
 pub loop-i-init : goal.loop-i-init
-loop-i-init c = search (rules, numbers-start)
-
-pub returns-in_default : goal.returns-in_default
-returns-in_default c = search (rules, numbers-malformed, stored-malformed)
-
-pub returns-in_default-behind_separator : goal.returns-in_default-behind_separator
-returns-in_default-behind_separator c = search (rules, numbers-unended, stored-unended)
+loop-i-init c = record { inside = c.requires.start_in_bounds; long = search rules; rest = numbers-start _ _ _ _ }
 
 pub loop-i-preserved : goal.loop-i-preserved
-loop-i-preserved c = search (rules, numbers_more)
+loop-i-preserved c = record { inside = search rules; long = search rules; rest = numbers_more _ _ _ _ _ _ _ c.loop-i.invariant.rest c.loop-i-test.true _ _ c.in_ok-number.ensures.value _ c.in_ok-at.ensures.value }
 
-pub returns : goal.returns
-returns c = search (rules, numbers-end, stored-end)
+pub returns-clause-value : goal.returns-clause-value
+returns-clause-value c = search (rules, numbers-end)
+
+pub returns-clause-out_after : goal.returns-clause-out_after
+returns-clause-out_after c = search (rules, stored-end)

@@ -1,24 +1,28 @@
-use Rattle.lexer.proofs.Digits.{digit_low, digit-high, few-times, few-plus, few-more, digits-end, digits-other, digits-many, digits_more}
-use Rattle.std.proofs.Common.{rules}
+use Rattle.std.proofs.Common.{arith, rules, ◌+◌, ◌-◌, ◌≡◌, suc}
+use Rattle.lexer.proofs.Digits.{digit-small, digits-end, digits-other, digits-many, digits_more, few-times, few-plus, few-more}
 use Rattle.lexer.proofs.numbers.more_digits.Goals as goal
 
-pub returns-then-not-is_digit : goal.returns-then-not-is_digit
-returns-then-not-is_digit c = search (rules, digits-other)
+pub returns-then-not-is_ascii_digit-clause-value : goal.returns-then-not-is_ascii_digit-clause-value
+returns-then-not-is_ascii_digit-clause-value c = search (rules, digits-other)
 
-pub returns-then-left-eq0 : goal.returns-then-left-eq0
-returns-then-left-eq0 c = search (rules, digits-many)
+pub returns-then-most-at-clause-value : goal.returns-then-most-at-clause-value
+returns-then-most-at-clause-value c =
+    digits-many _ _ _ _ c.loop-at.invariant.rest c.loop-at-test.true c.is_ascii_digit.ensures.value c.if-not-is_ascii_digit.false (omega arith)
 
-pub overflow_mul-v : goal.overflow_mul-v
-overflow_mul-v c = search (rules, few-times)
+pub overflow_mul-value : goal.overflow_mul-value
+overflow_mul-value c = search (rules, few-times)
 
-pub digit_value-requires : goal.digit_value-requires
-digit_value-requires c = search (rules, digit_low, digit-high)
-
-pub overflow_add-v : goal.overflow_add-v
-overflow_add-v c = search (rules, few-plus, digit-high)
+pub overflow_add-value : goal.overflow_add-value
+overflow_add-value c = search (rules, few-plus, digit-small)
 
 pub loop-at-preserved : goal.loop-at-preserved
-loop-at-preserved c = search (rules, few-more, digit-high, digits_more)
+loop-at-preserved c =
+    let left : c.args.start + c.args.most - c.loop-at.at ≡ suc (c.args.start + c.args.most - (c.loop-at.at + 1)) = omega arith in
+    record {
+      passed = omega arith;
+      few = few-more _ _ _ _ c.loop-at.invariant.few (digit-small _ c.is_ascii_digit.ensures.value c.if-not-is_ascii_digit.false) left;
+      rest = digits_more _ _ _ _ c.loop-at.invariant.rest c.loop-at-test.true c.is_ascii_digit.ensures.value c.if-not-is_ascii_digit.false left;
+    }
 
-pub returns : goal.returns
-returns c = search (rules, digits-end)
+pub returns-clause-value : goal.returns-clause-value
+returns-clause-value c = search (rules, digits-end)

@@ -1,16 +1,24 @@
-use Rattle.buffer.specs.Laws.{writing_more, writing-all, writing-long}
-use Rattle.limits.proofs.Walked.{items-none, groups-start, groups-more}
-use Rattle.std.proofs.Common.{rules}
+use Rattle.std.proofs.Common.{rules, arith, ◌<◌, ◌≤◌, get_or, drop}
+use Rattle.orm.specs.Sets.{limits_of_group}
+use Rattle.orm.specs.Form.{group_of}
+use Rattle.table.specs.Cursors.{placed_at}
+use Rattle.limits.proofs.Walked.{encoding_start, encoding_more, encoding_all, groups_first, left_more, left_none}
 use Rattle.limits.proofs.preds.push_group_limits.Goals as goal
 
-pub loop-left-init : goal.loop-left-init
-loop-left-init c = (search rules, search rules, search (rules, groups-start))
+pub loop-i-init : goal.loop-i-init
+loop-i-init c = (search rules, encoding_start (groups_first c.args.t.now c.args.x c.groups_at-q.ensures))
 
-pub loop-left-preserved : goal.loop-left-preserved
-loop-left-preserved c = (search rules, search rules, search (rules, writing_more, groups-more))
-
-pub shape_of-out : goal.shape_of-out
-shape_of-out c = search (rules, writing-long)
+pub loop-i-preserved : goal.loop-i-preserved
+loop-i-preserved c =
+    let inv = c.loop-i.invariant in
+    let more : c.loop-i.i < get_or (drop c.args.x.at c.args.t.now) 3 0 = search rules in (
+      inv.0,
+      encoding_more (left_more group_of 2 (limits_of_group (placed_at c.args.t.now c.args.x)) c.args.t.now _ _ 1 c.loop-i.i
+          (omega arith) more) inv.1 c.push_group.ensures,
+    )
 
 pub returns : goal.returns
-returns c = search (rules, writing-all, items-none)
+returns c =
+    let over : get_or (drop c.args.x.at c.args.t.now) 3 0 ≤ c.loop-i.i = search rules in
+    encoding_all (left_none group_of 2 (limits_of_group (placed_at c.args.t.now c.args.x)) c.args.t.now _ _ 1 c.loop-i.i over)
+    c.loop-i.invariant.1

@@ -1,23 +1,32 @@
-use Rattle.table.specs.Laws.Cursors.{reach-start, reach_here, reach-more}
-use Rattle.buffer.specs.Laws.{writing_more, writing-all, writing-long}
-use Rattle.limits.proofs.Walked.{limits-start, limits-more, limits-none}
-use Rattle.std.proofs.Common.{rules}
+use Rattle.std.proofs.Common.{rules, arith, ◌<◌, ◌≤◌, ◌-◌}
+use Rattle.table.specs.Positions.{pred_count}
+use Rattle.table.specs.Laws.Cursors.{reach-start, reach_here}
+use Rattle.limits.proofs.Walked.{encoding_start, encoding_more, encoding_all, preds_all, preds_more, preds_none, reach_next}
 use Rattle.limits.proofs.preds.push_preds.Goals as goal
 
-pub loop-left-init : goal.loop-left-init
-loop-left-init c = search (rules, limits-start, reach-start)
+pub loop-init : goal.loop-init
+loop-init c =
+    (reach-start c.args.t.now c.requires.walkable c.first_cursor-x.ensures (omega arith), encoding_start (preds_all c.args.t.now c.first_cursor-x.ensures))
 
-pub push_pred-to-requires : goal.push_pred-to-requires
-push_pred-to-requires c = search (rules, reach_here)
+pub push_pred-requires-clause-here : goal.push_pred-requires-clause-here
+push_pred-requires-clause-here c =
+    let more : c.loop.counter < pred_count c.args.t.now = search rules in
+    reach_here c.args.t.now c.loop.x (pred_count c.args.t.now - c.loop.counter) c.loop.invariant.0 (omega arith)
 
-pub next_cursor-x-requires : goal.next_cursor-x-requires
-next_cursor-x-requires c = search (rules, reach_here)
+pub next_cursor-x-requires-clause-here : goal.next_cursor-x-requires-clause-here
+next_cursor-x-requires-clause-here c =
+    let more : c.loop.counter < pred_count c.args.t.now = search rules in
+    reach_here c.args.t.now c.loop.x (pred_count c.args.t.now - c.loop.counter) c.loop.invariant.0 (omega arith)
 
-pub loop-left-preserved : goal.loop-left-preserved
-loop-left-preserved c = search (rules, writing_more, limits-more, reach-more)
-
-pub shape_of-out : goal.shape_of-out
-shape_of-out c = search (rules, writing-long)
+pub loop-preserved : goal.loop-preserved
+loop-preserved c =
+    let inv = c.loop.invariant in
+    let more : c.loop.counter < pred_count c.args.t.now = search rules in (
+      reach_next c.args.t.now c.loop.x c.loop.counter inv.0 more c.next_cursor-x.ensures,
+      encoding_more (preds_more c.args.t.now c.loop.x c.loop.counter more c.next_cursor-x.ensures) inv.1 c.push_pred.ensures,
+    )
 
 pub returns : goal.returns
-returns c = search (rules, writing-all, limits-none)
+returns c =
+    let over : pred_count c.args.t.now ≤ c.loop.counter = search rules in
+    encoding_all (preds_none c.args.t.now c.loop.x c.loop.counter over) c.loop.invariant.1

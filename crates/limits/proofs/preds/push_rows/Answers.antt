@@ -1,4 +1,3 @@
--- `limits::preds::push_rows` meets its contract. A header that counts the operands, the groups and the ungrouped roles.
 use Rattle.limits.proofs.Limited.{rows_is}
 use Rattle.std.proofs.Common.{rules}
 use Rattle.limits.proofs.preds.push_rows.Goals as goal

@@ -1,7 +1,6 @@
--- `limits::types::push_sum` meets its contract. A header that counts the operands, and the operands.
-use Rattle.limits.proofs.Walked.{sum_is}
-use Rattle.std.proofs.Common.{rules}
+use Rattle.limits.proofs.Limited.{sum_is}
 use Rattle.limits.proofs.types.push_sum.Goals as goal
 
 pub returns : goal.returns
-returns c = search (rules, sum_is)
+returns c =
+    sum_is c.args.a _ c.place-from.ensures c.place-to.ensures c.push_of_type.ensures c.push.ensures.same_limits c.push.ensures.same_operands c.push.ensures.is

@@ -1,16 +1,10 @@
--- `population::counts::count_pred_cells` meets its contract. Those counted and those of the predicates left come to the whole.
-use Prim.Native.Nat.{◌+◌, ◌*◌, ◌≤◌}
-use Rattle.orm.specs.Sets.{placed}
-use Rattle.table.specs.Positions.{diagram_of}
-use Rattle.table.specs.Cursors.{Reach, placed_left}
-use Rattle.population.proofs.PredLaws.{pred_cells}
-use Rattle.population.proofs.CountLaws.{Counted}
+use Rattle.std.proofs.Common.{length, ◌+◌, ◌*◌, ◌≤◌, ◌≡◌}
+use Rattle.population.proofs.PredLaws.{Walking, cells_to}
 use Rattle.population.proofs.counts.count_pred_cells.Given as goal
 
-abbrev pub invariant-loop-left : goal.invariant-loop-left
-invariant-loop-left l =
-    Reach l.t l.x l.left × (l.n + (1 + 4096 * 160) * l.left ≤ 32 * (1 + 4096 * 160))
-    × Counted l.n (pred_cells l.t l.c (placed_left l.left l.t l.x)) (pred_cells l.t l.c (placed (diagram_of l.t)))
-
-abbrev pub decreases-loop-left : goal.decreases-loop-left
-decreases-loop-left l = l.left
+abbrev pub invariant-loop : goal.invariant-loop
+invariant-loop l = record {
+  walking : Walking l.t l.x l.counter;
+  value : l.n ≡ length (cells_to l.t l.c l.counter);
+  small : l.n ≤ (1 + 4096 * 160) * l.counter;
+}

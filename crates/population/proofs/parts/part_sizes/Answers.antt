@@ -1,7 +1,7 @@
--- `population::parts::part_sizes` meets its contract. The groups' sizes, then those of the roles in no group.
-use Rattle.population.proofs.PartLaws.{part-sizes-is}
 use Rattle.std.proofs.Common.{rules}
+use Rattle.population.proofs.Writing.{fronted}
+use Rattle.population.proofs.PartLaws.{owns-room}
 use Rattle.population.proofs.parts.part_sizes.Goals as goal
 
 pub returns : goal.returns
-returns c = search (rules, part-sizes-is)
+returns c = fronted c.args.space.now (search rules) (owns-room c.args.t.now c.args.x c.requires.few c.args.space.now c.args.c.now c.requires.room)

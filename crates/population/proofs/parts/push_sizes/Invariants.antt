@@ -1,12 +1,7 @@
--- `population::parts::push_sizes` meets its contract. The sizes of the sets left come to the whole.
-use Prim.Native.Nat.{◌-◌, ◌≤◌}
-use lib.ListN.{length, drop}
-use Rattle.buffer.specs.Written.{Writing}
+use Rattle.std.proofs.Common.{take}
+use Rattle.buffer.specs.Written.{Wrote}
 use Rattle.population.specs.Plan.{sizes_of}
 use Rattle.population.proofs.parts.push_sizes.Given as goal
 
-abbrev pub invariant-loop-i : goal.invariant-loop-i
-invariant-loop-i l = (l.i ≤ length l.sets) × Writing l.initial.out l.at (sizes_of l.c l.sets) l.out l.to (sizes_of l.c (drop l.i l.sets))
-
-abbrev pub decreases-loop-i : goal.decreases-loop-i
-decreases-loop-i l = length l.sets - l.i
+abbrev pub invariant-loop-set : goal.invariant-loop-set
+invariant-loop-set l = Wrote l.initial.out (sizes_of l.c (take l.set-index l.sets)) l.out

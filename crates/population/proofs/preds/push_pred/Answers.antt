@@ -1,17 +1,35 @@
--- `population::preds::push_pred` meets its contract. The roles of the parts stand at the front of the scratch.
-use Rattle.population.proofs.PartLaws.{front-count, roles-within}
-use Rattle.population.proofs.Planning.{ordered, opened}
-use Rattle.std.proofs.Common.{rules}
+use Rattle.std.proofs.Common.{sym, subst, refl, take}
+use Rattle.population.specs.declared.rows.Plan.{Plan}
+use Rattle.population.proofs.Writing.{wrote_more}
+use Rattle.tuples.specs.Steps.{Small}
+use Rattle.population.proofs.PredLaws.{owns-small, wanted, ready, planned, pred-is}
 use Rattle.population.proofs.preds.push_pred.Goals as goal
 
-pub slice_bounds-roles-end : goal.slice_bounds-roles-end
-slice_bounds-roles-end c = search (rules, roles-within)
+pub row_steps-parts-requires-clause-small : goal.row_steps-parts-requires-clause-small
+row_steps-parts-requires-clause-small c =
+    subst Small (sym c.part_sizes-n.ensures.is) (owns-small c.args.t.now c.args.c.now c.args.x c.requires.at_predicate)
 
-pub slice_bounds-push_ordered-end : goal.slice_bounds-push_ordered-end
-slice_bounds-push_ordered-end c = search (rules, front-count, roles-within)
+pub role_steps-steps-requires-clause-wants : goal.role_steps-steps-requires-clause-wants
+role_steps-steps-requires-clause-wants c =
+    rw (c.part_sizes-n.ensures.is, c.part_counts-n.ensures.is, c.roles-n.ensures.is)
+    (wanted c.args.t.now c.args.c.now c.args.x c.requires.at_predicate)
 
-pub push_ordered-requires-clause-ordered : goal.push_ordered-requires-clause-ordered
-push_ordered-requires-clause-ordered c = search (rules, ordered, c.push_grouped-a.ensures, c.push_in_group-n.ensures)
+pub push_rows-requires-clause-planned : goal.push_rows-requires-clause-planned
+push_rows-requires-clause-planned c =
+    planned c.requires.at_predicate c.requires.types
+    (ready c.args.t.now c.args.c.now c.args.types.now c.args.x c.roles-n.ensures.is c.part_sizes-n.ensures.is c.part_counts-n.ensures.is c.size-size.ensures.value
+    c.columns-width.ensures.is c.row_steps-parts.ensures.is refl c.role_steps-steps.ensures.is)
 
-pub push_ordered-requires-clause-opened : goal.push_ordered-requires-clause-opened
-push_ordered-requires-clause-opened c = search (rules, opened, c.push_grouped-a.ensures, c.push_in_group-n.ensures)
+-- the rows depend on what the plan's slices hold, and not on where these stand
+pub returns : goal.returns
+returns c =
+    let p : Plan = record {
+      columns = record { ref_ptr = c.args.t.ref_ptr; now = take c.columns-width.result c.columns-width.new.space };
+      outer = record { ref_ptr = c.args.t.ref_ptr; now = take c.row_steps-parts.result c.row_steps-parts.new.space };
+      counts = record { ref_ptr = c.args.t.ref_ptr; now = take c.part_counts-n.result c.part_counts-n.new.space };
+      inner = record { ref_ptr = c.args.t.ref_ptr; now = take c.role_steps-steps.result c.role_steps-steps.new.space };
+    } in
+    wrote_more c.push.ensures c.push_rows.ensures
+    (pred-is c.requires.at_predicate c.requires.types {p = p}
+    (ready c.args.t.now c.args.c.now c.args.types.now c.args.x c.roles-n.ensures.is c.part_sizes-n.ensures.is c.part_counts-n.ensures.is c.size-size.ensures.value
+    c.columns-width.ensures.is c.row_steps-parts.ensures.is refl c.role_steps-steps.ensures.is) c.size-size.ensures.value)

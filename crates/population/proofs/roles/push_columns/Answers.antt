@@ -1,16 +1,13 @@
-use Rattle.buffer.specs.Laws.{writing_start, writing_more, writing-long}
-use Rattle.population.proofs.ColumnLaws.{columns-more, columns-all}
 use Rattle.std.proofs.Common.{rules}
+use Rattle.population.proofs.Writing.{wrote_none, wrote_more}
+use Rattle.population.proofs.RoleLaws.{columns_none, columns_more, columns_all}
 use Rattle.population.proofs.roles.push_columns.Goals as goal
 
-pub loop-left-init : goal.loop-left-init
-loop-left-init c = (search rules, search rules, search (rules, writing_start))
+pub loop-i-init : goal.loop-i-init
+loop-i-init c = search (rules, wrote_none, columns_none)
 
-pub loop-left-preserved : goal.loop-left-preserved
-loop-left-preserved c = (search rules, search rules, search (rules, writing_more, columns-more))
-
-pub shape_of-out : goal.shape_of-out
-shape_of-out c = search (rules, writing-long)
+pub loop-i-preserved : goal.loop-i-preserved
+loop-i-preserved c = search (rules, wrote_more, columns_more)
 
 pub returns : goal.returns
-returns c = search (rules, columns-all)
+returns c = search (rules, columns_all)

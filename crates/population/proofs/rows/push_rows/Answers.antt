@@ -1,16 +1,10 @@
-use Rattle.buffer.specs.Laws.{writing_start, writing_more, writing-all, writing-long}
-use Rattle.population.proofs.RowCells.{rows_more, rows_none}
 use Rattle.std.proofs.Common.{rules}
+use Rattle.population.proofs.Writing.{wrote_none, wrote_more}
+use Rattle.population.proofs.RowLaws.{rows_none, rows_more}
 use Rattle.population.proofs.rows.push_rows.Goals as goal
 
-pub loop-left-init : goal.loop-left-init
-loop-left-init c = (search rules, search rules, search rules, search (rules, writing_start))
+pub loop-i-init : goal.loop-i-init
+loop-i-init c = record { wrote = search (rules, wrote_none, rows_none); indices = search rules; flat = search rules }
 
-pub loop-left-preserved : goal.loop-left-preserved
-loop-left-preserved c = (search rules, search rules, search rules, search (rules, writing_more, rows_more))
-
-pub shape_of-out : goal.shape_of-out
-shape_of-out c = search (rules, writing-long)
-
-pub returns : goal.returns
-returns c = search (rules, writing-all, rows_none)
+pub loop-i-preserved : goal.loop-i-preserved
+loop-i-preserved c = record { wrote = wrote_more c.loop-i.invariant.wrote c.push_row.ensures (rows_more c.args.plan.now c.loop-i.i); indices = search rules; flat = search rules }

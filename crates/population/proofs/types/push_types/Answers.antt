@@ -1,16 +1,13 @@
-use Rattle.buffer.specs.Laws.{writing_more, writing-all, writing-long}
-use Rattle.population.proofs.TypeLaws.{types-start, types_more, types-none}
 use Rattle.std.proofs.Common.{rules}
+use Rattle.population.proofs.Writing.{wrote_none, wrote_more}
+use Rattle.population.proofs.TypeLaws.{types_none, types_more, types_all}
 use Rattle.population.proofs.types.push_types.Goals as goal
 
-pub loop-left-init : goal.loop-left-init
-loop-left-init c = (search rules, search (rules, types-start))
+pub loop-a-init : goal.loop-a-init
+loop-a-init c = search (rules, wrote_none, types_none)
 
-pub loop-left-preserved : goal.loop-left-preserved
-loop-left-preserved c = (search rules, search (rules, writing_more, types_more))
-
-pub shape_of-out : goal.shape_of-out
-shape_of-out c = search (rules, writing-long)
+pub loop-a-preserved : goal.loop-a-preserved
+loop-a-preserved c = search (rules, wrote_more, types_more)
 
 pub returns : goal.returns
-returns c = search (rules, writing-all, types-none)
+returns c = search (rules, types_all)

@@ -3,7 +3,6 @@ use Rattle.reader.proofs.Stored.{stored-start, stored-halted, stored_on, stored-
 use Rattle.reader.proofs.Turns.{is-going, start-room, as_long, number_fits, front-text, turn_room, turn_number, turn_less, turn_on, turn_halted, surplus, whole}
 use Rattle.reader.proofs.Turns.{ended-halted, ended-surplus, ended-whole}
 use Rattle.grammar.specs.Laws.Room.{room_most}
-use Rattle.reader.proofs.Answers.{inside-refusal, inside-faulty, inside-whole}
 use Rattle.std.proofs.Common.{rules}
 use Rattle.reader.proofs.walk.read_lines.Goals as goal
 
@@ -18,9 +17,6 @@ returns-in_default-clause-result_value c = search (rules, ended-halted, text_cut
 
 pub returns-in_default-clause-table_after : goal.returns-in_default-clause-table_after
 returns-in_default-clause-table_after c = search (rules, stored-halted)
-
-pub returns-in_default-clause-inside : goal.returns-in_default-clause-inside
-returns-in_default-clause-inside c = search (rules, inside-refusal)
 
 pub returns-in_default-clause-result_after : goal.returns-in_default-clause-result_after
 returns-in_default-clause-result_after c = search (rules, turn_halted, text_cuts, front-text)
@@ -45,9 +41,6 @@ returns-then-at-text-clause-result_value c = search (rules, ended-surplus, text_
 pub returns-then-at-text-clause-table_after : goal.returns-then-at-text-clause-table_after
 returns-then-at-text-clause-table_after c = search (rules, stored-over)
 
-pub returns-then-at-text-clause-inside : goal.returns-then-at-text-clause-inside
-returns-then-at-text-clause-inside c = search (rules, inside-faulty)
-
 pub returns-then-at-text-clause-result_after : goal.returns-then-at-text-clause-result_after
 returns-then-at-text-clause-result_after c = search (rules, surplus, text_cuts)
 
@@ -58,7 +51,7 @@ pub returns-clause-table_after : goal.returns-clause-table_after
 returns-clause-table_after c = search (rules, stored-over)
 
 pub returns-clause-inside : goal.returns-clause-inside
-returns-clause-inside c = search (rules, inside-whole, room_most)
+returns-clause-inside c = search (rules, room_most)
 
 pub returns-clause-result_after : goal.returns-clause-result_after
 returns-clause-result_after c = search (rules, whole, text_cuts)

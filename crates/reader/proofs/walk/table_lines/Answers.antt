@@ -1,5 +1,5 @@
 use Rattle.reading.specs.Cutting.{table_cuts}
-use Rattle.reader.proofs.Turns.{is-going, start-room, level-within, number_fits, front-table, turn_room, turn_number, turn_less, turn_on, turn_halted, turn_level, surplus, whole}
+use Rattle.reader.proofs.Turns.{is-going, start-room, number_fits, front-table, turn_room, turn_number, turn_less, turn_on, turn_halted, turn_level, surplus, whole}
 use Rattle.reader.proofs.Turns.{ended-halted, ended-surplus, ended-whole}
 use Rattle.std.proofs.Common.{rules}
 use Rattle.reader.proofs.walk.table_lines.Goals as goal
@@ -20,7 +20,12 @@ pub loop-line-smaller : goal.loop-line-smaller
 loop-line-smaller c = search (rules, turn_less, table_cuts)
 
 pub loop-line-preserved : goal.loop-line-preserved
-loop-line-preserved c = search (rules, level-within, turn_number, turn_room, turn_level, turn_on, table_cuts)
+loop-line-preserved c = (
+  search rules,
+  search (turn_number, table_cuts, front-table),
+  search (turn_room, table_cuts, front-table),
+  turn_level _ _ _ _ c.in-Ok.ensures.level.0 (search (turn_on, table_cuts, front-table)),
+)
 
 pub returns-then-end-table : goal.returns-then-end-table
 returns-then-end-table c = search (rules, ended-surplus, surplus, table_cuts)

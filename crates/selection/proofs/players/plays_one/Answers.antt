@@ -1,12 +1,12 @@
-use Rattle.selection.specs.Laws.Players.{plays-none, plays-here, plays-more}
 use Rattle.std.proofs.Common.{rules}
+use Rattle.selection.specs.Laws.Players.{plays_none, plays_more, plays_found}
 use Rattle.selection.proofs.players.plays_one.Goals as goal
 
-pub returns-then-same : goal.returns-then-same
-returns-then-same c = search (rules, plays-here)
+pub loop-i-init : goal.loop-i-init
+loop-i-init c = search (rules, plays_none)
 
-pub loop-left-preserved : goal.loop-left-preserved
-loop-left-preserved c = search (rules, plays-more)
+pub returns-then-number : goal.returns-then-number
+returns-then-number c = search (rules, plays_found)
 
-pub returns : goal.returns
-returns c = search (rules, plays-none)
+pub loop-i-preserved : goal.loop-i-preserved
+loop-i-preserved c = search (rules, plays_more)

@@ -1,0 +1,13 @@
+use Rattle.buffer.specs.Laws.{writing_start, writing_more, writing_all}
+use Rattle.cases.proofs.Numbers.{numbers_more, numbers-none}
+use Rattle.std.proofs.Common.{rules}
+use Rattle.cases.proofs.push_numbers.Goals as goal
+
+pub loop-b-init : goal.loop-b-init
+loop-b-init c = search (rules, writing_start)
+
+pub loop-b-preserved : goal.loop-b-preserved
+loop-b-preserved c = search (rules, writing_more, numbers_more)
+
+pub returns : goal.returns
+returns c = search (rules, writing_all, numbers-none)

@@ -1,7 +1,0 @@
--- `lines_main::put_entry` meets its contract. its parts are written one after another.
-use Rattle.lines_main.proofs.Writing.{wrote-entry}
-use Rattle.std.proofs.Common.{rules}
-use Rattle.lines_main.proofs.put_entry.Goals as goal
-
-pub returns : goal.returns
-returns c = search (rules, wrote-entry)

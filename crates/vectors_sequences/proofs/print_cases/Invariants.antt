@@ -1,5 +1,0 @@
--- `vectors_sequences::print_cases` is safe and ends. The measure is the number of cases that are left.
-use Rattle.vectors_sequences.proofs.print_cases.Given as goal
-
-abbrev pub decreases-loop-left : goal.decreases-loop-left
-decreases-loop-left g l = l.left

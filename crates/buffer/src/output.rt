@@ -27,10 +27,16 @@ impl<'a, T: Copy> Output<'a, T> {
         }
     }
 
-    // All of xs.
+    // All of xs. That there is room is tested once for all of them; where there is not, once for each.
     pub fn append(&mut self, xs: &[T])
         ensures { Wrote self.old xs.now self.new }
     {
+        if self.at <= self.buffer.len() && xs.len() <= self.buffer.len() - self.at {
+            let end = self.at + xs.len();
+            self.buffer[self.at..end].copy_from_slice(xs);
+            self.at = end;
+            return;
+        }
         for x in xs {
             self.push(*x);
         }

@@ -14,13 +14,25 @@ ghost use Rattle.selection.specs.Selected.{types_of, positions, Types};
 
 use buffer::Output;
 
-// `count` consecutive numbers.
+// Consecutive numbers, as many as the slice is long.
+fn count_up(first: u32, numbers: &mut [u32])
+    requires { first + length numbers.old < 4294967296 }
+    ensures { numbers.new ≡ up_from first (length numbers.old) }
+{
+    for (i, x) in numbers.iter_mut().enumerate() {
+        *x = first + i as u32;
+    }
+}
+
+// `count` consecutive numbers. That there is room is tested once for all of them.
 pub fn push_up(first: u32, count: u32, out: &mut Output<'_, u32>)
     requires { first + count < 4294967296 }
     ensures { Wrote out.old (up_from first count) out.new }
 {
-    for i in 0..count {
-        out.push(first + i);
+    if out.at < out.buffer.len() {
+        let end = out.at + (out.buffer.len() - out.at).min(count as usize);
+        count_up(first, &mut out.buffer[out.at..end]);
+        out.at = end;
     }
 }
 

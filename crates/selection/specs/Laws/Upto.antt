@@ -2,10 +2,11 @@
 use Rattle.std.specs.Prelude.{ℕ, zero, suc, ◌+◌, ◌*◌, ◌-◌, ◌≤◌, ◌<◌, ◌≡◌, refl, Bool, true, false, List, [], ◌∷◌, ◌++◌, count_by, nat_eq, eqb, length, get_or, drop, take}
 use Rattle.std.proofs.Common.{arith, ap, ap₂, cond, sym, ◌∙◌, add-one, append-nil, append_assoc, length-take-le, drop-drop, eq-eqb, ne_eqb}
 use Rattle.std.specs.List.{filter}
-use Rattle.std.proofs.lemmas.List.{take_more}
+use Rattle.std.proofs.lemmas.List.{take_more, take_at}
 use Rattle.std.proofs.lemmas.List.Sums.{length-filter}
 use Rattle.counting.specs.Lists.{when, up_from, each}
 use Rattle.counting.proofs.Laws.Lines.{each-length}
+use Rattle.counting.proofs.Laws.Range.{length-up_from, up_from_append}
 use Rattle.orm.specs.Diagram.{Role, Predicate}
 use Rattle.orm.specs.Sets.{select, roles_in_group}
 use Rattle.table.specs.Positions.{role_width, wide_role, roles_in, preds_in, preds_length, roles_start, pred_of, pred_length, pred_count, first_pred_at, Walkable}
@@ -26,6 +27,11 @@ up_from-suc a (suc n) =
 
 pub up_from_more : (a n : ℕ) → up_from a (n + 1) ≡ up_from a n ++ (a + n) ∷ []
 up_from_more a n = rw add-one (up_from-suc a n)
+
+pub take-up_from : (a n : ℕ) {k : ℕ} → k ≤ n → take k (up_from a n) ≡ up_from a k
+take-up_from a n {k} h =
+    let e : n ≡ k + (n - k) = omega arith in
+    ap (λ m. take k (up_from a m)) e ∙ ap (take k) (up_from_append a k (n - k)) ∙ take_at (up_from a k) (up_from (a + k) (n - k)) k (length-up_from a k)
 
 -- ---- lines of so many numbers
 

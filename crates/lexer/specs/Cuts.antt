@@ -1,5 +1,5 @@
 -- What the functions that cut numbers and lines off a text answer, in the words of Text.antt: a position stands for what follows it.
-use Rattle.std.specs.Prelude.{ℕ, zero, suc, List, [], ◌∷◌, ◌++◌, Option, Some, None, drop}
+use Rattle.std.specs.Prelude.{ℕ, zero, suc, ◌+◌, ◌-◌, List, [], ◌∷◌, ◌++◌, Option, Some, None, length, drop}
 use Rattle.std.proofs.Math.Option.{Option as Rest, none, some}
 use Rattle.orm.specs.Diagram as orm
 use Rattle.orm.specs.Reader.{Cut, broken, cut}
@@ -19,6 +19,10 @@ kind_of RoleLine = orm.role_line
 kind_of LimitedRoleLine = orm.limited_role_line
 kind_of FreqLine = orm.freq_line
 kind_of EndLine = orm.end_line
+
+-- The position behind what is taken off the text from `at` on, so that `rest` is left
+abbrev pub behind : List ℕ → ℕ → List ℕ → ℕ
+behind s at rest = at + (length (drop at s) - length rest)
 
 -- A number in the text `s`, and what follows it
 abbrev pub numeral_of : List ℕ → Option Numeral → text.Numeral

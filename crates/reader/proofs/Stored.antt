@@ -74,7 +74,7 @@ reached-length p acc s q acc' e rest x = go (text_line (kind_at p) s) refl x
               ]
         ]) → e ≡ length acc + length (line_numbers (kind_at p) s)
     go broken c y = let z : ◌≡◌ {A = ℕ} 0 1 = cc in absurd (omega arith)
-    go (cut v r) c y = fine v r (line-sound (kind_at p) s v r c) (step_at p acc v) y
+    go (cut v r) c y = fine v r (line-sound (kind_at p) s v r c).0 (step_at p acc v) y
 
 -- ---- turn by turn: line `number` at `at` is next, and the numbers so far end at `end`
 

@@ -1,11 +1,11 @@
 -- The loops that put limits to use: along the operands that name a set, and over the sets that changed.
 use Prim.Native.Nat.{ℕ, suc, ◌+◌, ◌-◌, ◌≤◌, ◌<◌}
-use Rattle.std.specs.Prelude.{◌≡◌, refl, ◌⊎◌, slice_index, slice_index_or, map, not, eqb, ◌++◌}
+use Rattle.std.specs.Prelude.{◌≡◌, refl, ◌⊎◌, zero, [], ◌∷◌, slice_index, slice_index_or, slice_set, map, not, eqb, ◌++◌, drop}
 use Rattle.std.proofs.Common.{sym, ap, subst, ◌∙◌, inl, inr, arith}
-use mathlib.Core.List.{List}
+use mathlib.Core.List.{List, append-nil}
 use Rattle.std.proofs.Math.Decide.{ℕ_discrete}
 use Rattle.std.proofs.Math.ListN.{length, take}
-use Rattle.std.proofs.Common.{add-one, take_all}
+use Rattle.std.proofs.Common.{add-one, take_all, drop_of_length-le}
 use Rattle.std.proofs.lemmas.List.{length-map}
 use Rattle.std.proofs.lemmas.List.Sums.{fold-append}
 use Rattle.lowering.specs.Laws.Limits.{at-map}
@@ -120,12 +120,42 @@ module _ (ls : List Limit) (sets old : List ℕ) where
 wrote_then : {old mid new : Output ℕ} {xs ys : List ℕ} → Wrote old xs mid → Wrote mid ys new → Wrote old (xs ++ ys) new
 wrote_then {old = old} {xs = xs} {ys = ys} v w = record { same = w.same ∙ v.same; is = w.is ∙ ap (λ p. puts p ys) v.is ∙ sym (fold-append put (place_of old) xs ys) }
 
-pub listed_more : (c c' : List ℕ) (i : ℕ) {old mid new : Output ℕ} → i < length c → i < length c' → Wrote old (differing 0 (take i c) (take i c')) mid
-    → Wrote mid (when (not (eqb (slice_index c i) (slice_index c' i))) i) new → Wrote old (differing 0 (take (i + 1) c) (take (i + 1) c')) new
-listed_more c c' i {old} {mid} {new} h h' v w =
+-- The first i sizes are taken over
+abbrev pub taken : List ℕ → List ℕ → ℕ → List ℕ
+taken c c' i = take i c' ++ drop i c
+
+taken-set : (c c' : List ℕ) (i : ℕ) → i < length c → i < length c' → slice_set (taken c c' i) i (slice_index c' i) ≡ taken c c' (suc i)
+taken-set [] c' i h h' = absurd (omega arith)
+taken-set (x ∷ c) [] i h h' = absurd (omega arith)
+taken-set (x ∷ c) (y ∷ c') zero h h' = refl
+taken-set (x ∷ c) (y ∷ c') (suc i) h h' = ap (λ (l : List ℕ). y ∷ l) (taken-set c c' i (omega arith) (omega arith))
+
+taken-at : (c c' : List ℕ) (i : ℕ) → i < length c → i < length c' → slice_index (taken c c' i) i ≡ slice_index c i
+taken-at [] c' i h h' = absurd (omega arith)
+taken-at (x ∷ c) [] i h h' = absurd (omega arith)
+taken-at (x ∷ c) (y ∷ c') zero h h' = refl
+taken-at (x ∷ c) (y ∷ c') (suc i) h h' = taken-at c c' i (omega arith) (omega arith)
+
+pub taken-more : (c c' : List ℕ) (i : ℕ) {b b' : List ℕ} → i < length c → i < length c' → b ≡ taken c c' i
+    → b' ≡ slice_set b i (slice_index c' i) → b' ≡ taken c c' (i + 1)
+taken-more c c' i {b} h h' e f = rw add-one (f ∙ ap (λ (l : List ℕ). slice_set l i (slice_index c' i)) e ∙ taken-set c c' i h h')
+
+pub taken-start : (c c' : List ℕ) → c ≡ taken c c' 0
+taken-start c c' = refl
+
+pub taken-all : (c c' : List ℕ) (i : ℕ) {b : List ℕ} → length c ≡ length c' → length c' ≤ i → b ≡ taken c c' i → b ≡ c'
+taken-all c c' i {b} e h q =
+    let behind : drop i c ≡ [] = drop_of_length-le c (omega arith) in
+    q ∙ ap (λ (l : List ℕ). take i c' ++ l) behind ∙ append-nil (take i c') ∙ take_all i c' h
+
+pub listed_more : (c c' : List ℕ) (i : ℕ) {b : List ℕ} {old mid new : Output ℕ} → i < length c → i < length c' → b ≡ taken c c' i
+    → Wrote old (differing 0 (take i c) (take i c')) mid → Wrote mid (when (not (eqb (slice_index b i) (slice_index c' i))) i) new
+    → Wrote old (differing 0 (take (i + 1) c) (take (i + 1) c')) new
+listed_more c c' i {b} {old} {mid} {new} h h' q v w =
     let e : 0 + i ≡ i = omega arith in
+    let same : slice_index b i ≡ slice_index c i = ap (λ (l : List ℕ). slice_index l i) q ∙ taken-at c c' i h h' in
     let more = differing_more 0 i c c' h h' ∙ ap (λ j. differing 0 (take i c) (take i c') ++ when (not (eqb (slice_index c i) (slice_index c' i))) j) e in
-    rw (add-one, more) (wrote_then v w)
+    rw (add-one, more) (wrote_then v (rw same at w))
 
 pub listed_all : (c c' : List ℕ) (i : ℕ) {old new : List ℕ} {at : ℕ} → length c ≤ i → length c' ≤ i
     → WroteAll old (differing 0 (take i c) (take i c')) new at → WroteAll old (differing 0 c c') new at

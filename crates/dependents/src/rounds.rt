@@ -1,5 +1,5 @@
 // A round on sizes, and the sets that it changed.
-ghost use Rattle.std.specs.Prelude.{◌≡◌, not, ◌≤◌, ◌<◌, eqb, length, take};
+ghost use Rattle.std.specs.Prelude.{◌≡◌, not, ◌≤◌, ◌<◌, eqb, length, take, slice_index, slice_set};
 ghost use Rattle.fixpoint.specs.Limits.{round};
 ghost use Rattle.buffer.specs.Written.{Wrote, WroteAll};
 ghost use Rattle.lowering.specs.Coded.{limits_of};
@@ -46,11 +46,15 @@ fn lower_listed(
     }
 }
 
-// A set whose size changes is listed.
-fn list(before: u32, after: u32, set: usize, changed: &mut Output<'_, usize>)
-    ensures { Wrote changed.old (when (not (eqb before after)) set) changed.new }
+// Makes the size of the set x, and lists a set whose size changes.
+fn take_size(before: &mut [u32], set: usize, x: u32, changed: &mut Output<'_, usize>)
+    requires { set < length before.old }
+    ensures before_after { before.new ≡ slice_set before.old set x }
+    ensures wrote { Wrote changed.old (when (not (eqb (slice_index before.old set) x)) set) changed.new }
 {
-    if before != after {
+    // Most sizes stay, and are not written.
+    if before[set] != x {
+        before[set] = x;
         changed.push(set);
     }
 }
@@ -63,9 +67,8 @@ fn take_sizes(before: &mut [u32], after: &[u32], changed: &mut [usize]) -> usize
 {
     let mut out = Output::new(changed);
     for i in 0..after.len() {
-        list(before[i], after[i], i, &mut out);
+        take_size(before, i, after[i], &mut out);
     }
-    before.copy_from_slice(after);
     out.at
 }
 

@@ -60,7 +60,7 @@ fn fit(res: &[u32], rounds: u32, sizes: &mut [u32]) -> Result<Written, Refusal>
     if sizes.len() < res.len() {
         return Err(Refusal::TooShort { needed: res.len() });
     }
-    sizes[..res.len()].copy_from_slice(res);
+    buffer::copy(res, &mut sizes[..res.len()]);
     Ok(Written {
         length: res.len(),
         rounds,

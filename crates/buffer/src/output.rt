@@ -2,6 +2,8 @@
 ghost use Rattle.std.specs.Prelude.{[], ◌∷◌, replicate};
 ghost use Rattle.buffer.specs.Written.{Wrote, Starts};
 
+use crate::copy;
+
 // A lent slice, and the index at which the next item goes; behind what was written, the slice keeps
 // what it held.
 #[derive(Drop)]
@@ -33,7 +35,7 @@ impl<'a, T: Copy> Output<'a, T> {
     {
         if self.at <= self.buffer.len() && xs.len() <= self.buffer.len() - self.at {
             let end = self.at + xs.len();
-            self.buffer[self.at..end].copy_from_slice(xs);
+            copy(xs, &mut self.buffer[self.at..end]);
             self.at = end;
             return;
         }

@@ -87,7 +87,7 @@ pub fn round(limits: &Limits<'_>, old: &[u32], new: &mut [u32])
     requires closed { Closed (length old.now) limits.now }
     ensures { new.new ≡ round (limits_of limits.now) old.now }
 {
-    new.copy_from_slice(old);
+    buffer::copy(old, new);
     for limit in limits.limits {
         lower_by(*limit, limits.operands, old, new);
     }

@@ -57,7 +57,7 @@ fn hand_out(n: usize, numbers: &[u32], table: &mut [u32]) -> Result<usize, Refus
     if table.len() < n {
         return Err(Refusal::TooShort { needed: n });
     }
-    table[..n].copy_from_slice(&numbers[..n]);
+    buffer::copy(&numbers[..n], &mut table[..n]);
     Ok(n)
 }
 

@@ -6,4 +6,4 @@ use Rattle.buffer.proofs.output.Output.append.Goals as goal
 pub returns-then-xs-self : goal.returns-then-xs-self
 returns-then-xs-self g c =
     wrote-part refl refl refl (omega arith) (omega arith) (omega arith)
-    (c.copy_from_slice.ensures.after ∙ sym (take_all (length c.args.xs.now) c.args.xs.now (omega arith)))
+    (c.copy.ensures ∙ sym (take_all (length c.args.xs.now) c.args.xs.now (omega arith)))

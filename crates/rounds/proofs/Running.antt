@@ -3,7 +3,6 @@ use Rattle.std.specs.Prelude.{◌≡◌, refl, true, false, [], ◌∷◌, ℕ, 
 use Rattle.std.proofs.Common.{sym, ap, ◌∙◌, subst, arith, add-one, eq-eqb, ne_eqb, Fits, w32}
 use Rattle.std.proofs.Math.Option as lowest
 use Rattle.std.proofs.Math.Option.{none, some}
-use Rattle.std.proofs.Math.Path.{subst⁻¹}
 use Rattle.std.proofs.Math.Seq.{take-append_seam}
 use Rattle.counting.specs.Terms.{Each}
 use Rattle.counting.specs.Lists.{same}
@@ -15,7 +14,9 @@ use Rattle.fixpoint.proofs.Laws.Tests.{Found, first_below-found, slack_less}
 use Rattle.buffer.specs.Written.{WroteAll}
 use Rattle.buffer.specs.Laws.{wrote-whole, wrote-end, wrote-long}
 use Rattle.lowering.specs.Coded.{limits_of}
-use Rattle.lowering.specs.Closed.{Closed, Inside}
+use Rattle.lowering.specs.Closed.{Closed, Fed, Inside}
+use Rattle.lowering.specs.declared.Most.{Most}
+use Rattle.lowering.specs.declared.Most.TheVariants.{Size, Product, Sum, Times, Quotient}
 use Rattle.lowering.specs.Laws.Limits.{closed-inside}
 use Rattle.lowering.specs.declared.Limits.{Limits}
 use Rattle.dependents.specs.Dependents.{Linked, differing}
@@ -27,7 +28,7 @@ use Rattle.rounds.specs.declared.Progress.TheVariants.{Emptied, Settled, Going}
 use Rattle.rounds.specs.declared.Emptied as refusal
 use Rattle.rounds.specs.declared.Rounds.{Rounds}
 use Rattle.rounds.specs.Answer.{lowest_of, step_from, lowered_in, step_of, emptied, outcome_of, rounds_of, end_of, first_in, listed_after, scratch_after, Linked_in, LinksAfter}
-use Rattle.rounds.specs.Answer.{Bounds, Scratch, Standing, Continued, Advanced, Relinked, Ended}
+use Rattle.rounds.specs.Answer.{SameSlices, SameLinks, Bounds, Scratch, Standing, Continued, Advanced, Relinked, Ended}
 use Rattle.rounds.specs.Scan.{position_is, changed_first}
 
 -- ---- what a round comes to
@@ -165,7 +166,8 @@ module _ (ls : List Limit) (lower start : List ℕ) where
 -- ---- the loop: after `n` rounds the upper bounds are those of `r`, and the next round can be made
 
 pub record Turning (l : Limits) (lower : List ℕ) (r₀ : Rounds) (k₀ : Links) (n count : ℕ) (r : Rounds) (k : Links) : Type 0 where
-  pub name : r.upper.ghost_name ≡ r₀.upper.ghost_name
+  pub slices : SameSlices r₀ r
+  pub links : SameLinks k₀ k
   pub bounds : Bounds l lower r₀.upper.now
   pub scratch : Scratch l r₀ k₀
   pub running : Running (limits_of l) lower r₀.upper.now n r.upper.now
@@ -175,7 +177,24 @@ pub record Turning (l : Limits) (lower : List ℕ) (r₀ : Rounds) (k₀ : Links
   pub listed : r.changed.now ≡ listed_after (limits_of l) r₀.upper.now r₀.changed.now n
   pub linked : LinksAfter n (limits_of l) k₀ k
   pub long : length r.upper.now ≡ length r₀.upper.now
-  pub heads : length k.last.now ≡ length r₀.upper.now
+  pub last_long : length k.last.now ≡ length k₀.last.now
+
+same-slices : {a b c : Rounds} → SameSlices a b → SameSlices b c → SameSlices a c
+same-slices v w = record { upper = w.upper ∙ v.upper; next = w.next ∙ v.next; changed = w.changed ∙ v.changed }
+
+same-links : {a b c : Links} → SameLinks a b → SameLinks b c → SameLinks a c
+same-links v w = record { last = w.last ∙ v.last; uses = w.uses ∙ v.uses }
+
+-- Limits that are whole for n sets are so for more
+fed-wider : {n m : ℕ} → n ≤ m → (ops : List ℕ) (x : Most) → Fed n ops x → Fed m ops x
+fed-wider h ops (Size set) w = omega (arith, w)
+fed-wider h ops (Product from to) w = record { order = w.order; inside = w.inside; each = λ k d b. omega (arith, w.each k d b) }
+fed-wider h ops (Sum from to) w = record { order = w.order; inside = w.inside; each = λ k d b. omega (arith, w.each k d b) }
+fed-wider h ops (Times factor set) w = omega (arith, w)
+fed-wider h ops (Quotient set divisor) w = omega (arith, w)
+
+closed-wider : {n m : ℕ} → n ≤ m → (l : Limits) → Closed n l → Closed m l
+closed-wider h l c = λ k d b. let w = c k d b in record { target = omega (arith, w.target); most = fed-wider h l.operands.now _ w.most }
 
 -- the links behind the next round
 relinked : (n : ℕ) (l : Limits) (k₀ k k' : Links) → LinksAfter n (limits_of l) k₀ k → Relinked (n + 1) l k k' → Linked_in (limits_of l) k₀ k'
@@ -190,7 +209,8 @@ module _ {l : Limits} {lower : List ℕ} {r₀ : Rounds} {k₀ : Links} where
   pub turn_start : Bounds l lower r₀.upper.now → Scratch l r₀ k₀ → first_below 0 lower r₀.upper.now ≡ none → Turning l lower r₀ k₀ 0 0 r₀ k₀
   unfolding upper_after listed_after
   turn_start b s above = record {
-    name = refl;
+    slices = record { upper = refl; next = refl; changed = refl };
+    links = record { last = refl; uses = refl };
     bounds = b;
     scratch = s;
     running = begin (limits_of l) lower r₀.upper.now above;
@@ -200,7 +220,7 @@ module _ {l : Limits} {lower : List ℕ} {r₀ : Rounds} {k₀ : Links} where
     listed = refl;
     linked = record { last = refl; uses = refl };
     long = refl;
-    heads = s.last_room;
+    last_long = refl;
   }
 
   module _ {n count : ℕ} {r : Rounds} {k : Links} (w : Turning l lower r₀ k₀ n count r k) where
@@ -217,7 +237,7 @@ module _ {l : Limits} {lower : List ℕ} {r₀ : Rounds} {k₀ : Links} where
     count_fits = record { fits = omega (arith, w.running.counted, w.bounds.few, slack-small lower start w.bounds.small) }
 
     pub turn_closed : Closed (length k.last.now) l
-    turn_closed = rw (w.heads ∙ sym w.long) w.standing.closed
+    turn_closed = closed-wider (omega (arith, w.last_long, w.long, w.scratch.last_room)) l w.standing.closed
 
     -- the round was made
     module _ {p : Progress} {r' : Rounds} (a : Advanced l lower r p r') where
@@ -247,7 +267,8 @@ module _ {l : Limits} {lower : List ℕ} {r₀ : Rounds} {k₀ : Links} where
       over v is e q = record {
         count = n;
         counted = ap rounds_of is ∙ e;
-        name = a.name ∙ w.name;
+        slices = same-slices w.slices a.slices;
+        links = w.links;
         outcome = q ∙ ap outcome_of (sym is);
         stands = stood;
         same = a.same ∙ sym a.stands ∙ stood;
@@ -283,13 +304,13 @@ module _ {l : Limits} {lower : List ℕ} {r₀ : Rounds} {k₀ : Links} where
         turn_more {k'} re =
             let made : Linked_in ls k₀ k' = relinked n l k₀ k k' w.linked re in
             let inside : Each (Inside (length k₀.last.now)) ls =
-            subst⁻¹ (λ j. Each (Inside j) ls) w.scratch.last_room (closed-inside l w.bounds.closed) in
+            closed-inside l (closed-wider w.scratch.last_room l w.bounds.closed) in
             let linked : Linked ls k'.last.now k'.uses.now =
             rw (made.last, made.uses) (links-linked (length k₀.last.now) k₀.uses.now ls inside w.scratch.uses_room) in
-            let heads : length k'.last.now ≡ length start =
-            ap length made.last ∙ links-sized (length k₀.last.now) k₀.uses.now ls ∙ w.scratch.last_room in
+            let long : length k'.last.now ≡ length k₀.last.now = ap length made.last ∙ links-sized (length k₀.last.now) k₀.uses.now ls in
             record {
-              name = a.name ∙ w.name;
+              slices = same-slices w.slices a.slices;
+              links = same-links w.links re.slices;
               bounds = w.bounds;
               scratch = w.scratch;
               running = rw (a.stands, add-one) (more ls lower start w.running parts.0 differ w.standing.paired);
@@ -303,7 +324,7 @@ module _ {l : Limits} {lower : List ℕ} {r₀ : Rounds} {k₀ : Links} where
                 later = λ _. record {
                   due = record {
                     linked = linked;
-                    heads = heads ∙ sym w.long ∙ sym as_long;
+                    heads = omega (arith, long, w.scratch.last_room, w.long, as_long);
                     before = c;
                     made = a.stands;
                     listed = rw (← parts.1, a.stands) (listed-is ls c r.changed.now a.listed w.standing.changed_room);
@@ -317,7 +338,7 @@ module _ {l : Limits} {lower : List ℕ} {r₀ : Rounds} {k₀ : Links} where
               listed = rw add-one lists;
               linked = rw add-one made;
               long = as_long ∙ w.long;
-              heads = heads;
+              last_long = long;
             }
 
 -- ---- the start

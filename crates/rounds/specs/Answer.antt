@@ -57,7 +57,17 @@ abbrev pub scratch_after : ℕ → List ℕ → List ℕ → List ℕ
 scratch_after zero before x = before
 scratch_after (suc n) before x = x
 
--- The operands are linked
+-- Each list is still the slice that was lent
+pub record SameSlices (old new : Rounds) : Type 0 where
+  pub upper : new.upper.ghost_name ≡ old.upper.ghost_name
+  pub next : new.next.ghost_name ≡ old.next.ghost_name
+  pub changed : new.changed.ghost_name ≡ old.changed.ghost_name
+
+pub record SameLinks (old new : Links) : Type 0 where
+  pub last : new.last.ghost_name ≡ old.last.ghost_name
+  pub uses : new.uses.ghost_name ≡ old.uses.ghost_name
+
+-- The operands are linked; no operand names a set past the others, and `last` holds 0 there
 pub record Linked_in (ls : List Limit) (old new : Links) : Type 0 where
   pub last : new.last.now ≡ (links (length old.last.now) old.uses.now ls).last
   pub uses : new.uses.now ≡ (links (length old.last.now) old.uses.now ls).uses.items
@@ -74,6 +84,7 @@ LinksAfter (suc n) ls old new = Linked_in ls old new
 
 -- Behind round n the operands are linked, if it is the first
 pub record Relinked (n : ℕ) (l : Limits) (old new : Links) : Type 0 where
+  pub slices : SameLinks old new
   pub made : n ≡ 1 → Linked_in (limits_of l) old new
   pub kept : (n ≡ 1 → ⊥) → Kept old new
 
@@ -97,7 +108,7 @@ pub record Bounds (l : Limits) (lower upper : List ℕ) : Type 0 where
 pub record Scratch (l : Limits) (r : Rounds) (k : Links) : Type 0 where
   pub next_room : length r.upper.now ≡ length r.next.now
   pub changed_room : length r.upper.now ≤ length r.changed.now
-  pub last_room : length k.last.now ≡ length r.upper.now
+  pub last_room : length r.upper.now ≤ length k.last.now
   pub uses_room : operand_count (limits_of l) ≤ length k.uses.now
 
 -- What any round starts from
@@ -120,7 +131,7 @@ pub record Continued (n : ℕ) (l : Limits) (lower : List ℕ) (k : Links) (r : 
 
 -- A round came to p: the new upper bounds stand in both lists, and those lowered at the front of the third
 pub record Advanced (l : Limits) (lower : List ℕ) (old : Rounds) (p : Progress) (new : Rounds) : Type 0 where
-  pub name : new.upper.ghost_name ≡ old.upper.ghost_name
+  pub slices : SameSlices old new
   pub came : p ≡ step_of (limits_of l) lower old.upper.now
   pub stands : new.upper.now ≡ round (limits_of l) old.upper.now
   pub same : new.next.now ≡ round (limits_of l) old.upper.now
@@ -130,7 +141,8 @@ pub record Advanced (l : Limits) (lower : List ℕ) (old : Rounds) (p : Progress
 pub record Ended (l : Limits) (lower : List ℕ) (old : Rounds) (links₀ : Links) (r : Result ℕ refusal.Emptied) (new : Rounds) (links' : Links) : Type 0 where
   pub count : ℕ
   pub counted : rounds_of (run (limits_of l) lower old.upper.now) ≡ suc count
-  pub name : new.upper.ghost_name ≡ old.upper.ghost_name
+  pub slices : SameSlices old new
+  pub links : SameLinks links₀ links'
   pub outcome : r ≡ outcome_of (run (limits_of l) lower old.upper.now)
   pub stands : new.upper.now ≡ upper_after (limits_of l) old.upper.now (suc count)
   pub same : new.next.now ≡ upper_after (limits_of l) old.upper.now (suc count)

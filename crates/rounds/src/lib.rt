@@ -8,7 +8,7 @@ ghost use Rattle.fixpoint.specs.Limits.{upper_after, first_below, run};
 ghost use Rattle.lowering.specs.Coded.{limits_of};
 ghost use Rattle.lowering.specs.Closed.{Closed};
 ghost use Rattle.rounds.specs.Answer.{lowest_of, first_in, step_from, outcome_of, rounds_of, scratch_after, listed_after, end_of};
-ghost use Rattle.rounds.specs.Answer.{LinksAfter, Bounds, Scratch, Standing, Later, Continued, Advanced, Relinked, Ended};
+ghost use Rattle.rounds.specs.Answer.{SameSlices, SameLinks, LinksAfter, Bounds, Scratch, Standing, Later, Continued, Advanced, Relinked, Ended};
 
 use dependents::Links;
 use lowering::Limits;
@@ -181,7 +181,8 @@ impl<'a> Rounds<'a> {
     ) -> Result<u32, Emptied>
         requires bounds { Bounds limits.now lower.now self.old.upper.now }
         requires scratch { Scratch limits.now self.old links.old }
-        ensures same { self.new.upper.ghost_name ≡ self.old.upper.ghost_name }
+        ensures same { SameSlices self.old self.new }
+        ensures same_links { SameLinks links.old links.new }
         ensures value { result ≡ outcome_of (run (limits_of limits.now) lower.now self.old.upper.now) }
         ensures upper_after { self.new.upper.now
             ≡ upper_after (limits_of limits.now) self.old.upper.now

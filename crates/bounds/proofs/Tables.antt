@@ -168,7 +168,6 @@ space_so {t} k b ea eb el eu en ec es ed = record {
     operands_at = ap (λ (s : Both). s.operands.at) b.is;
     limits_room = omega (arith, k.limits_are, ap (λ (s : Both). length s.limits.items) b.is);
     operands_room = omega (arith, k.operands_are, ap (λ (s : Both). length s.operands.items) b.is);
-    operands_few = omega (arith, k.few, ap (λ (s : Both). length s.operands.items) b.is);
   };
   lower_room = omega (arith, k.sets_are);
   upper_room = omega (arith, k.sets_are);

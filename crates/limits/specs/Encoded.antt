@@ -84,7 +84,6 @@ pub record Fresh (o : Writer) (limits operands : ℕ) : Type 0 where
   pub operands_at : o.operands.at ≡ 0
   pub limits_room : limits ≤ length o.limits.buffer.now
   pub operands_room : operands ≤ length o.operands.buffer.now
-  pub operands_few : length o.operands.buffer.now ≤ largest
 
 -- What a limit has among the operands, and how many those of all limits are
 abbrev pub written_of : Expr → List ℕ

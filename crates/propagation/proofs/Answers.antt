@@ -156,5 +156,4 @@ roomy_so b ec eo = record {
   operands_at = ap (λ (s : Both). s.operands.at) b.is;
   limits_room = omega (arith, ap (λ (s : Both). length s.limits.items) b.is);
   operands_room = omega (arith, ap (λ (s : Both). length s.operands.items) b.is);
-  operands_few = omega (arith, ap (λ (s : Both). length s.operands.items) b.is);
 }

@@ -21,6 +21,7 @@ use Rattle.table.specs.Positions.{diagram_of}
 use Rattle.table.specs.Laws.Valid.{valid-walkable}
 use Rattle.std.specs.Prelude.{map, All, Result, Ok, Err}
 use Rattle.lowering.specs.Coded.{limit_of, limits_of}
+use Rattle.lowering.specs.Sizes.{largest}
 use Rattle.lowering.specs.Closed.{Within, Closed}
 use Rattle.lowering.specs.declared.Limits.{Limits}
 use Rattle.limits.specs.Encoded.{Fresh, Encoded, written_count}
@@ -55,15 +56,15 @@ module _ {t : List ℕ} {roles sets : ℕ} (known : Counted t roles sets) where
         operands_at = f.operands_at;
         limits_room = omega (arith, f.limits_room);
         operands_room = omega (arith, f.operands_room);
-        operands_few = f.operands_few;
       } in
+      let few : written_count (limits d) ≤ largest = omega (arith, operands) in
       record {
         poses = record {
           of = d;
           reads = refl;
-          limits_within = read-within w fresh;
-          limits_are = read-limits w fresh;
-          whole = read-whole w fresh sets (rw known.sets_are (rw (upper-sets d) at (limits-inside d known.valid.formed)));
+          limits_within = read-within w fresh few;
+          limits_are = read-limits w fresh few;
+          whole = read-whole w fresh few sets (rw known.sets_are (rw (upper-sets d) at (limits-inside d known.valid.formed)));
           sets_are = known.sets_are;
         };
       }

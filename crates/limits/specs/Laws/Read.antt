@@ -217,8 +217,8 @@ read (l ∷ ls) pre rest at room small = go l.most refl (read ls)
 
 -- ---- from the fronts of two slices on
 
--- Limits were written into slices into which nothing had been written
-module _ {o n : Writer} {ls : List Limit} (w : Encoded o ls n) (f : Fresh o (length ls) (written_count ls)) where
+-- Limits were written into slices into which nothing had been written, so few operands that the place of each fits 32 bits
+module _ {o n : Writer} {ls : List Limit} (w : Encoded o ls n) (f : Fresh o (length ls) (written_count ls)) (few : written_count ls ≤ largest) where
   abbrev limits : List code.Limit
   limits = o.limits.buffer.now
 
@@ -226,7 +226,7 @@ module _ {o n : Writer} {ls : List Limit} (w : Encoded o ls n) (f : Fresh o (len
   operands = o.operands.buffer.now
 
   r : Read [] operands (place limits 0) ls
-  r = read ls [] operands (place limits 0) f.operands_room (omega (arith, f.operands_room, f.operands_few))
+  r = read ls [] operands (place limits 0) f.operands_room (omega arith)
 
   written : both_of n ≡ fold with_limit (both (place limits 0) (place operands 0)) ls
   written = w.is ∙ ap₂ (λ i j. fold with_limit (both (place limits i) (place operands j)) ls) f.limits_at f.operands_at

@@ -15,6 +15,8 @@ use Rattle.rounds.specs.Answer.{Bounds}
 use Rattle.limits.specs.Encoded.{Encoded, Fresh, written_count}
 use Rattle.limits.specs.Laws.Inside.{limits-inside}
 use Rattle.limits.specs.Laws.Read.{read-within, read-limits, read-whole}
+use Rattle.limits.specs.Laws.Room.{operands-fit}
+use Rattle.lowering.specs.Sizes.{largest}
 use Rattle.limits.specs.declared.writer.Writer.{Writer}
 
 pub start-bounds : (d : Diagram) → WellFormed d → (l : Limits) {low high : List ℕ} → Inside d low high → Closed (length (upper d)) l → Bounds l low high
@@ -27,14 +29,17 @@ start-bounds d w l {low} {high} i c = record {
 
 -- The limits that were written are the diagram's, and are whole
 module _ (d : Diagram) (w : WellFormed d) {o n : Writer} (e : Encoded o (limits d) n) (f : Fresh o (length (limits d)) (written_count (limits d))) where
+  operands-few : written_count (limits d) ≤ largest
+  operands-few = omega (arith, operands-fit d w)
+
   pub written-within : n.limits.at ≤ length n.limits.buffer.now
-  written-within = read-within e f
+  written-within = read-within e f operands-few
 
   module _ (l : Limits) (el : l.limits.now ≡ take n.limits.at n.limits.buffer.now) (eo : l.operands.now ≡ n.operands.buffer.now) where
     pub written-limits : limits_of l ≡ limits d
-    written-limits = ap₂ (λ ops xs. map (limit_of ops) xs) eo el ∙ read-limits e f
+    written-limits = ap₂ (λ ops xs. map (limit_of ops) xs) eo el ∙ read-limits e f operands-few
 
     pub written-closed : Closed (length (upper d)) l
     written-closed =
         subst⁻¹ (λ ops. All (Within (length (upper d)) ops) l.limits.now) eo
-        (subst⁻¹ (All (Within (length (upper d)) n.operands.buffer.now)) el (read-whole e f (length (upper d)) (limits-inside d w)))
+        (subst⁻¹ (All (Within (length (upper d)) n.operands.buffer.now)) el (read-whole e f operands-few (length (upper d)) (limits-inside d w)))

@@ -1,15 +1,18 @@
 -- What a caller knows of a table that was refused or accepted.
 use Rattle.std.specs.Prelude.{ℕ, ◌≤◌, ◌≡◌, refl, List, ◌++◌, length, take, drop, Result, Ok, Err}
-use Rattle.std.proofs.Common.{arith, sym, ◌∙◌, length-append, take_at, length-take-le}
+use Rattle.std.proofs.Common.{arith, sym, ◌∙◌, ⊎_elim, length-append, take_at, length-take-le}
 use Rattle.std.proofs.Math.Path.{ap}
 use Rattle.orm.specs.Diagram.{Diagram, totals}
 use Rattle.orm.specs.Text.{table_line}
 use Rattle.orm.specs.Outcome.{Outcome, refused, accepted, ◌>>=◌, buffer_after}
 use Rattle.orm.specs.Calls.{diagram_in}
-use Rattle.reading.specs.Laws.{table-accepted-iff}
+use Rattle.reading.specs.Laws.{table-accepted-iff, accepted_or_fault}
 use Rattle.reading.specs.WideTable.{wide_table}
-use Rattle.refusals.specs.Refusal.{refusal_of}
+use Rattle.grammar.specs.Fault as faults
+use Rattle.grammar.specs.declared.Fault.{Fault}
+use Rattle.refusals.specs.Refusal.{number_of, refusal_of}
 use Rattle.refusals.specs.declared.Refusal.{Refusal}
+use Rattle.refusals.specs.declared.Refusal.TheVariants.{Faulty, Emptied, TooShort, Cells, NoSuch, Impossible}
 use Rattle.table.specs.Positions.{diagram_of}
 use Rattle.table.specs.Laws.WideTable.{wide_back}
 use Rattle.table.specs.Laws.Valid.{wide-valid}
@@ -34,12 +37,37 @@ module _ {A B : Type 0} (tell : A → B) where
 
 -- ---- refused
 
+-- The refusal is that of a fault, 1 to 6, and of the line with it
+pub record Faulted (t : List ℕ) (x : Refusal) : Type 0 where
+  pub fault : Fault
+  pub line : ℕ
+  pub is : x ≡ Faulty fault line
+  pub refuses : diagram_in table_line t ≡ refused (faults.number_of fault) line 0
+
+by_number : (t : List ℕ) (x : Refusal) {c : ℕ} → number_of x ≡ c → c ≤ 6 → diagram_in table_line t ≡ refusal_of x → Faulted t x
+by_number t (Faulty f line) q h e = record { fault = f; line = line; is = refl; refuses = e }
+by_number t (Emptied set round) q h e = absurd (omega arith)
+by_number t (TooShort needed) q h e = absurd (omega arith)
+by_number t (Cells at) q h e = absurd (omega arith)
+by_number t (NoSuch number) q h e = absurd (omega arith)
+by_number t (Impossible set round) q h e = absurd (omega arith)
+
+faulted : (t : List ℕ) (x : Refusal) → diagram_in table_line t ≡ refusal_of x → Faulted t x
+faulted t x e =
+    ⊎_elim
+    (λ (d, a). let z : ◌≡◌ {A = ℕ} 0 1 = cc in absurd (omega arith))
+    (λ (c, place, h, r). let q : number_of x ≡ c = cc in by_number t x q h.1 e)
+    (accepted_or_fault table_line t)
+
 module _ (t : List ℕ) {r : Result Widened Refusal} {x : Refusal} (p : r ≡ Err x)
     (e : acceptance_of r ≡ described (diagram_in table_line t)) where
   pub accepted-refused : diagram_in table_line t ≡ refusal_of x
   accepted-refused =
       told-refused (λ (d : Diagram). record { wide_length = length (wide_table d); totals = totals d }) (diagram_in table_line t)
       (sym (ap acceptance_of p) ∙ e)
+
+  pub accepted-faulted : Faulted t x
+  accepted-faulted = faulted t x accepted-refused
 
 -- ---- accepted
 

@@ -19,15 +19,14 @@ use Rattle.sorting.proofs.Rising.{rising-apart}
 use Rattle.sorting.specs.Search.{place_of}
 use Rattle.sorting.proofs.Search.{place_in, place-holds}
 use Rattle.order.specs.Steps.{placed}
-use Rattle.std.specs.Prelude.{Option, Some, None}
+use Rattle.std.specs.Prelude.{Option, Some, None, Ok, Err}
 use Rattle.std.specs.Option.{is_some}
-use Rattle.std.specs.Bool.{then_some}
 use Rattle.std.specs.List.{list_any}
 use Rattle.columns.specs.declared.column.Column.{Column}
 use Rattle.columns.specs.Values.{values_in, length-spaced}
 use Rattle.lookup.specs.declared.Met.{Met}
 use Rattle.lookup.specs.Stamps.{stamped_if, among, Marked, is_set, member-among}
-use Rattle.lookup.specs.Counts.{Fresh, Looking, Looked, Next, looked-all}
+use Rattle.lookup.specs.Counts.{Fresh, Looking, Looked, Next, looked-inside, looked-outside}
 
 -- ---- whether all values of a column are members
 
@@ -166,8 +165,11 @@ module _ (vs ws ms₀ : List ℕ) (k : ℕ) where
           looked = rw (drop-cons vs (left - 1) 0 (omega (arith, i.few)), ← v) (n.looked ms₀ _ f (rw e at i.looked));
         }
 
-    pub meeting_end : {r : Option ℕ} → left ≤ 0 → r ≡ then_some met.all met.count → Looked ws ms₀ k vs ms r
-    meeting_end h e = let z : left ≡ 0 = omega arith in looked-all (rw z at i.looked) e
+    pub meeting-inside : left ≤ 0 → met.all ≡ true → Looked ws ms₀ k vs ms (Ok met.count)
+    meeting-inside h e = let z : left ≡ 0 = omega arith in looked-inside (rw z at i.looked) e
+
+    pub meeting-outside : left ≤ 0 → met.all ≡ false → Looked ws ms₀ k vs ms (Err met.count)
+    meeting-outside h e = let z : left ≡ 0 = omega arith in looked-outside (rw z at i.looked) e
 
 -- ---- marks
 

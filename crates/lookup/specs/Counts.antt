@@ -1,6 +1,5 @@
 -- How many members are met in a column, and what that tells of the column.
-use Rattle.std.specs.Bool.{then_some}
-use Rattle.std.specs.Prelude.{Option, Some, None, ℕ, ◌+◌, ◌≤◌, ◌<◌, ◌≡◌, refl, Bool, true, false, List, ◌∷◌, ◌++◌, eqb, length, get_or, replicate}
+use Rattle.std.specs.Prelude.{Result, Ok, Err, ℕ, ◌+◌, ◌≤◌, ◌<◌, ◌≡◌, refl, Bool, true, false, List, ◌∷◌, ◌++◌, eqb, length, get_or, replicate}
 use Rattle.std.proofs.Common.{arith, sym, ap, ◌∙◌, eq-eqb, eqb-true}
 use Rattle.std.proofs.lemmas.Bool.{false≢true}
 use Rattle.std.proofs.lemmas.List.{length-replicate, get_or-replicate}
@@ -32,27 +31,30 @@ pub record Looking (ws ms₀ : List ℕ) (k : ℕ) (vs ms : List ℕ) (met : Met
 pub record Next (ws : List ℕ) (k x : ℕ) (ms : List ℕ) (met : Met) (ms' : List ℕ) (met' : Met) : Type 0 where
   pub looked : (ms₀ vs : List ℕ) → Fresh ws ms₀ k → Looking ws ms₀ k vs ms met → Looking ws ms₀ k (x ∷ vs) ms' met'
 
--- How many members are met, where all values are members
-abbrev pub members_met : List ℕ → List ℕ → Option ℕ
-members_met ws vs = elim (within eqb vs ws) [ true ↦ Some (length (distinct eqb vs)) | false ↦ None ]
+-- How many members are met: as many as there are different values where all values are members, else as there are different members among them
+abbrev pub members_met : List ℕ → List ℕ → Result ℕ ℕ
+members_met ws vs = elim (within eqb vs ws) [ true ↦ Ok (length (distinct eqb vs)) | false ↦ Err (length (distinct eqb (among ws vs))) ]
 
 -- All are looked up
-pub record Looked (ws ms₀ : List ℕ) (k : ℕ) (vs ms : List ℕ) (r : Option ℕ) : Type 0 where
+pub record Looked (ws ms₀ : List ℕ) (k : ℕ) (vs ms : List ℕ) (r : Result ℕ ℕ) : Type 0 where
   pub marked : Marked ws ms
   pub mark : (i : ℕ) → i < length ws → get_or ms i 0 ≡ stamped_if (member eqb (get_or ws i 0) vs) k (get_or ms₀ i 0)
   pub met : r ≡ members_met ws vs
 
-pub looked-all : {ws ms₀ : List ℕ} {k : ℕ} {vs ms : List ℕ} {met : Met} {r : Option ℕ} → Looking ws ms₀ k vs ms met → r ≡ then_some met.all met.count
-    → Looked ws ms₀ k vs ms r
-looked-all {ws} {ms₀} {k} {vs} {ms} {met} {r} l e = record { marked = l.marked; mark = l.mark; met = e ∙ go (within eqb vs ws) refl }
-  where
-    go : (b : Bool) → within eqb vs ws ≡ b → then_some met.all met.count ≡ members_met ws vs
-    go true q = rw (l.all, members_met, q, l.count, among-all ws vs q)
-    go false q = rw (l.all, members_met, q)
+module _ {ws ms₀ : List ℕ} {k : ℕ} {vs ms : List ℕ} {met : Met} (l : Looking ws ms₀ k vs ms met) where
+  pub looked-inside : met.all ≡ true → Looked ws ms₀ k vs ms (Ok met.count)
+  looked-inside e =
+      let q : within eqb vs ws ≡ true = sym l.all ∙ e in
+      record { marked = l.marked; mark = l.mark; met = rw (members_met, q, l.count, among-all ws vs q) }
+
+  pub looked-outside : met.all ≡ false → Looked ws ms₀ k vs ms (Err met.count)
+  looked-outside e =
+      let q : within eqb vs ws ≡ false = sym l.all ∙ e in
+      record { marked = l.marked; mark = l.mark; met = rw (members_met, q, l.count) }
 
 -- What that tells: how many members are met; whether every member is among values that all are members; which members are met then; and
 -- the next stamp
-pub record Meets (ws vs ms : List ℕ) (k : ℕ) (ms' : List ℕ) (r : Option ℕ) : Type 0 where
+pub record Meets (ws vs ms : List ℕ) (k : ℕ) (ms' : List ℕ) (r : Result ℕ ℕ) : Type 0 where
   pub met : r ≡ members_met ws vs
   pub fills : within eqb vs ws ≡ true → eqb (length (distinct eqb vs)) (length ws) ≡ within eqb ws vs
   pub marks : (us : List ℕ) → all_met ws ms' us ≡ all_met ws ms (vs ++ us)
@@ -90,7 +92,7 @@ module _ (ws vs : List ℕ) (n : NoRepeats ws) (s : vs ⊆ ws) where
     λ e. eq-eqb _ _ (sym (no_repeats_eq_distinct eqb_decides ws vs n ((within_decides eqb_decides ws vs).0 e) s)),
   )
 
-pub meets : {ws ms vs ms' : List ℕ} {k : ℕ} {met : Option ℕ} → Fresh ws ms k → Looked ws ms k vs ms' met → Meets ws vs ms k ms' met
+pub meets : {ws ms vs ms' : List ℕ} {k : ℕ} {met : Result ℕ ℕ} → Fresh ws ms k → Looked ws ms k vs ms' met → Meets ws vs ms k ms' met
 meets {ws} {ms} {vs} {ms'} {k} {met} f l = record {
   met = l.met;
   fills = λ h. as_many ws vs (rising_no_repeats ws f.marked.rising) ((within_decides eqb_decides vs ws).0 h);

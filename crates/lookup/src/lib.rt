@@ -56,8 +56,14 @@ fn meet_value(list: &[u32], x: u32, marks: &mut [u32], stamp: u32, met: Met) -> 
     }
 }
 
-// The values of the column are looked up, from the last to the first, and the members among them met: how many, where all values are members.
-pub fn meet(values: &Column<'_>, list: &[u32], marks: &mut [u32], stamp: u32) -> Option<usize>
+// The values of the column are looked up, from the last to the first, and the members among them met: how many, as `Ok` where all values
+// are members and as `Err` where not all are.
+pub fn meet(
+    values: &Column<'_>,
+    list: &[u32],
+    marks: &mut [u32],
+    stamp: u32,
+) -> Result<usize, usize>
     requires { Fresh list.now marks.old stamp }
     ensures { Looked list.now marks.old stamp (values_in values.now) marks.new result }
 {
@@ -68,7 +74,11 @@ pub fn meet(values: &Column<'_>, list: &[u32], marks: &mut [u32], stamp: u32) ->
     for i in (0..values.count).rev() {
         met = meet_value(list, values.value(i), marks, stamp, met);
     }
-    met.all.then_some(met.count)
+    if met.all {
+        Ok(met.count)
+    } else {
+        Err(met.count)
+    }
 }
 
 // Every member was met.

@@ -16,11 +16,11 @@ use Rattle.orm.specs.Constraints.{Played, played, values_in_roles, all_played}
 use Rattle.faults.specs.Faults.{Fault, unless, given, lowered, faults_of}
 use Rattle.faults.specs.Passes.{belongs, fills, limited, role_faults, roles_faults}
 use Rattle.faults.specs.Laws.Lowest.{lowered-then}
-use Rattle.std.specs.Prelude.{Option, Some, None}
-use Rattle.std.specs.Option.{is_some}
+use Rattle.std.specs.Prelude.{Result, Ok, Err}
+use Rattle.std.specs.Result.{is_ok}
 use Rattle.table.specs.Positions.{wide_role, pred_length, preds_in, role_width, roles_start, roles_in, type_count, pred_count, first_pred_at, diagram_of}
 use Rattle.table.specs.Laws.Walks.{role-more, role-none, roles-here, preds_more, preds-none}
-use Rattle.lookup.specs.Stamps.{all_met, met-end}
+use Rattle.lookup.specs.Stamps.{among, all_met, met-end}
 use Rattle.lookup.specs.Counts.{Fresh, Looked, Meets, meets, fresh-later}
 use Rattle.blocks.specs.Blocks.{contents, pred_width, rows_at, rows_in, population_at}
 use Rattle.blocks.specs.Starts.{Located, starts-preds}
@@ -31,21 +31,21 @@ use Rattle.playing.specs.Found.{played_as, told_by, Left, Heard, Found}
 -- ---- one role
 
 module _ (r : Role) (size n : ℕ) (e : List ℕ) {e₁ : List ℕ} {b : Bool} (a : e₁ ≡ lowered (unless b 7 n) e) where
-  pub told-outside : {met : Option ℕ} → ((i : ℕ) → met ≡ Some i → ⊥) → b ≡ is_some met → e₁ ≡ lowered (told_by r met size n) e
+  pub told-outside : {met : Result ℕ ℕ} → ((i : ℕ) → met ≡ Ok i → ⊥) → b ≡ is_ok met → e₁ ≡ lowered (told_by r met size n) e
   unfolding told_by
   told-outside {met} h p = go met h p
     where
-      go : (o : Option ℕ) → ((i : ℕ) → o ≡ Some i → ⊥) → b ≡ is_some o → e₁ ≡ lowered (told_by r o size n) e
-      go None h p = rw (told_by, ← p) a
-      go (Some i) h p = absurd (h i refl)
+      go : (o : Result ℕ ℕ) → ((i : ℕ) → o ≡ Ok i → ⊥) → b ≡ is_ok o → e₁ ≡ lowered (told_by r o size n) e
+      go (Err i) h p = rw (told_by, ← p) a
+      go (Ok i) h p = absurd (h i refl)
 
-  pub told-inside : {met : Option ℕ} {count : ℕ} {f l : Bool} {e₂ e₃ : List ℕ} {mand low high : ℕ} → met ≡ Some count → b ≡ is_some met → mand ≡ r.mand
+  pub told-inside : {met : Result ℕ ℕ} {count : ℕ} {f l : Bool} {e₂ e₃ : List ℕ} {mand low high : ℕ} → met ≡ Ok count → b ≡ is_ok met → mand ≡ r.mand
       → f ≡ (eqb mand 1 && not (eqb count size)) → e₂ ≡ lowered (unless (not f) 8 n) e₁
       → low ≡ r.rmin → high ≡ r.rmax → l ≡ in_range (low to high) count → e₃ ≡ lowered (unless l 11 n) e₂
       → e₃ ≡ lowered (told_by r met size n) e
   unfolding told_by is_mandatory
   told-inside q p m f g low high l c =
-      let y : b ≡ true = p ∙ ap is_some q in
+      let y : b ≡ true = p ∙ ap is_ok q in
       rw (q, told_by, lowered-then, ← y, ← a, lowered-then, ← m, ← f, ← g, ← low, ← high, ← l) c
 
 module _ (x : Played) (number own k : ℕ) (ws ms e : List ℕ) {v : ℕ} (q : v ≡ x.role.type) where
@@ -63,7 +63,7 @@ module _ (x : Played) (number own k : ℕ) (ws ms e : List ℕ) {v : ℕ} (q : v
       let z : eqb x.role.type number ≡ false = rw (← q) (ne_eqb v number n) in
       heard ms e (rw (role_faults, z)) (λ us. rw (values_in_roles, z)) (fresh-later (k + 1) f (omega arith))
 
-  pub role-own : {met : Option ℕ} {ms' e' : List ℕ} → Fresh ws ms k → Looked ws ms k x.values ms' met → v ≡ number
+  pub role-own : {met : Result ℕ ℕ} {ms' e' : List ℕ} → Fresh ws ms k → Looked ws ms k x.values ms' met → v ≡ number
       → e' ≡ lowered (told_by x.role met (length ws) own) e
       → Heard number ws own (x ∷ []) ms e ms' e' (k + 1)
   unfolding role_faults values_in_roles given belongs limited fills told_by
@@ -80,7 +80,7 @@ module _ (x : Played) (number own k : ℕ) (ws ms e : List ℕ) {v : ℕ} (q : v
       filled false = refl
 
       only_if : (b : Bool) → within eqb x.values ws ≡ b
-          → e' ≡ lowered (told_by x.role (elim b [ true ↦ Some (length (distinct eqb x.values)) | false ↦ None ]) (length ws) own) e
+          → e' ≡ lowered (told_by x.role (elim b [ true ↦ Ok (length (distinct eqb x.values)) | false ↦ Err (length (distinct eqb (among ws x.values))) ]) (length ws) own) e
           → e' ≡ lowered (unless b 7 own ++ given b (unless (fills ws x) 8 own ++ unless (limited x) 11 own)) e
       only_if true h c = rw (m.fills h, filled (is_mandatory x.role)) at c
       only_if false h c = rw append-nil c

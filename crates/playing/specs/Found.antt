@@ -1,5 +1,5 @@
 -- What the roles that a type plays tell of it: of one role, of some, and of those of all predicates.
-use Rattle.std.specs.Prelude.{ℕ, ◌≡◌, Option, Some, None, true, false, not, ◌&&◌, eqb}
+use Rattle.std.specs.Prelude.{ℕ, ◌≡◌, Result, Ok, Err, true, false, not, ◌&&◌, eqb}
 use mathlib.Core.List.{List, [], ◌++◌, map, flatten}
 use Rattle.counting.specs.Distinct.{all}
 use Rattle.orm.specs.Diagram.{Role, is_mandatory}
@@ -16,10 +16,10 @@ use Rattle.playing.specs.Places.{population_of}
 abbrev pub played_as : Role → List ℕ → Played
 played_as r vs = record { role = r; values = vs }
 
--- K7, K8 and K11 of a role of the predicate with the number n, by how many of the `size` members of its type were met, if all values are members
-unfoldable pub told_by : Role → Option ℕ → ℕ → ℕ → List Fault
-told_by r None size n = unless false 7 n
-told_by r (Some count) size n =
+-- K7, K8 and K11 of a role of the predicate with the number n, by how many of the `size` members of its type were met, and whether all values are members
+unfoldable pub told_by : Role → Result ℕ ℕ → ℕ → ℕ → List Fault
+told_by r (Err count) size n = unless false 7 n
+told_by r (Ok count) size n =
     unless true 7 n ++ (unless (not (is_mandatory r && not (eqb count size))) 8 n ++ unless (in_range (r.rmin to r.rmax) count) 11 n)
 
 -- The faults fs noted in the entries e, and the values vs met by the marks ms of the members `ws`, come to what all the faults fs₀ and all the

@@ -16,13 +16,20 @@ use blocks::Blocks;
 use columns::Column;
 use faults::Faults;
 
-// K7, K8 and K11 of the role at `role`, by how many of the `size` members of its type were met, if all values are members.
-fn note_role(t: &[u32], role: usize, met: Option<usize>, size: usize, own: u32, faults: &mut Faults)
+// K7, K8 and K11 of the role at `role`, by how many of the `size` members of its type were met, and whether all values are members.
+fn note_role(
+    t: &[u32],
+    role: usize,
+    met: Result<usize, usize>,
+    size: usize,
+    own: u32,
+    faults: &mut Faults,
+)
     requires { Walkable t.now }
     ensures { faults.new.lowest ≡ lowered (told_by (wide_role (drop role t.now)) met size own) faults.old.lowest }
 {
-    faults.note(met.is_some(), 7, own);
-    let Some(count) = met else {
+    faults.note(met.is_ok(), 7, own);
+    let Ok(count) = met else {
         return;
     };
     // `&`: `&&` is a join that the search does not pass.

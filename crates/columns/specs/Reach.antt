@@ -13,15 +13,31 @@ use Rattle.columns.specs.Values.{spaced, values_in, key_of}
 use Rattle.counting.specs.Lists.{combination}
 use Rattle.columns.specs.Differ.{Wide, rows_held}
 
+-- The row of `width` cells at `at` is there as far as the columns `js` reach
+pub record Held (s : List ℕ) (width : ℕ) (js : List ℕ) (at : ℕ) : Type 0 where
+  pub each : Each (λ (j : ℕ). (j < width) × (at + j < length s)) js
+
 -- Each is a column of rows of `width` cells
 pub record Columns (width : ℕ) (js : List ℕ) : Type 0 where
   pub each : Each (λ (j : ℕ). j < width) js
+
+-- ---- one cell of a row
+
+module _ (s js : List ℕ) (width at i : ℕ) {k : ℕ} (h : Held s width js at) (l : i < length js) (e : k ≡ get_or js i 0) where
+  pub held-narrow : k < width
+  held-narrow = rw e (h.each _ (get_or_in js i 0 l)).0
+
+  pub held-inside : at + k < length s
+  held-inside = rw e (h.each _ (get_or_in js i 0 l)).1
 
 -- ---- the row with a number
 
 module _ (r : Rows) (js : List ℕ) (k : Keyed r js) (x : ℕ) (h : x < r.count) where
   rows_before : suc x * r.width ≤ r.count * r.width
   rows_before = mul-le-mul_right r.width h
+
+  pub row-held : (at : ℕ) → at ≡ r.start + x * r.width → Held r.cells.now r.width js at
+  row-held at e = record { each = λ j m. ((k.each j m).0, omega (arith, (k.each j m).1, rows_before, suc-mul x r.width)) }
 
   pub row-cell : (i : ℕ) {j : ℕ} (row : List ℕ) → i < length js → j ≡ get_or js i 0 → row ≡ drop (x * r.width) (drop r.start r.cells.now) → j < length row
   row-cell i {j} row l e q =
@@ -38,6 +54,9 @@ pub key-row : (r : Rows) (js : List ℕ) (x : ℕ) → Keyed r js → key_of r j
 unfolding key_of
 key-row r js x k = combination-front r.width js (drop (x * r.width) (drop r.start r.cells.now)) (λ j m. (k.each j m).0)
 
+pub keyed-start : (r : Rows) (js : List ℕ) → Keyed r js → r.start ≤ length r.cells.now + 4096
+keyed-start r js k = omega (arith, k.room, k.narrow)
+
 -- as far as the first n of the columns
 pub front-keyed : (r : Rows) (js : List ℕ) → Keyed r js → (n : ℕ) → Keyed r (take n js)
 front-keyed r js k n = record { narrow = k.narrow; room = k.room; each = λ j m. k.each j (rw take-append-drop at (Memᴰ.append_left (drop n js) m)) }
@@ -51,6 +70,12 @@ spaced-at (suc n) w zero l h = rw zero-mul
 spaced-at (suc n) w (suc i) l h =
     let e : w + i * w ≡ suc i * w = omega (arith, suc-mul i w) in
     spaced-at n w i (drop w l) (omega arith) ∙ rw (drop-drop (i * w) w l, e)
+
+-- its place is among the cells
+pub value-reached : {s : List ℕ} {start step count : ℕ} → Reached s start step count → (x : ℕ) → x < count → start + x * step < length s
+value-reached {s} {start} {step} {count} r x h =
+    let z : suc x * step ≤ count * step = mul-le-mul_right step h in
+    omega (arith, r.reach, suc-mul x step)
 
 -- it stands there
 pub value_is : (c : Column) (x : ℕ) → x < c.count → get_or (values_in c) x 0 ≡ get_or c.cells.now (c.start + x * c.step) 0

@@ -1,11 +1,12 @@
 -- The laws of places in cells: what the columns and rows there hold.
 use Rattle.std.specs.Prelude.{ℕ, zero, suc, ◌+◌, ◌*◌, ◌-◌, ◌≤◌, ◌<◌, min, ◌≡◌, refl, List, [], ◌∷◌, length, get_or, take, drop}
-use Rattle.std.proofs.Common.{add_comm, add-zero, mul-le-mul, arith, sym, ap, ◌∙◌, length-drop, drop-drop, get_or-take, get_or-drop}
+use Rattle.std.proofs.Common.{add_comm, add-zero, mul-le-mul, mul-one, arith, sym, ap, ◌∙◌, length-drop, length-take, drop-drop, get_or-take, get_or-drop}
 use Rattle.counting.specs.Lists.{column}
 use Rattle.orm.specs.Population.{rows_of}
 use Rattle.table.specs.Positions.{pred_of}
 use Rattle.table.specs.Laws.Walks.{role-count}
 use Rattle.columns.specs.declared.Rows.{Rows}
+use Rattle.columns.specs.Reached.{Reached}
 use Rattle.columns.specs.Values.{spaced}
 use Rattle.blocks.specs.Blocks.{members_at, rows_at, pred_width, most_cells}
 
@@ -36,13 +37,19 @@ spaced-take (suc k) [] = let e : min (suc k) 0 ≡ 0 = omega arith in rw e
 spaced-take (suc k) (x ∷ l) = let e : min (suc k) (suc (length l)) ≡ suc (min k (length l)) = omega arith in rw (e, spaced-take k l)
 
 -- `start` and `end` are where the members start and end, and `i` the size cell
-module _ (s : List ℕ) (at start : ℕ) {i end : ℕ} (l : start ≡ min (at + 1) (length s)) (h : drop start s ≡ drop 1 (drop at s))
+module _ (s : List ℕ) (at start : ℕ) {i end : ℕ} (l : start ≤ length s) (h : drop start s ≡ drop 1 (drop at s))
     (f : i ≡ get_or (drop at s) 0 0) (g : end ≡ min (start + i) (length s)) where
   size_is : end - start ≡ min (get_or (drop at s) 0 0) (length (drop 1 (drop at s)))
   size_is = omega (arith, length-drop start s, ap length h)
 
   pub members-are : spaced (end - start) 1 (drop start s) ≡ members_at (drop at s)
   members-are = rw (size_is, h) (spaced-take (get_or (drop at s) 0 0) (drop 1 (drop at s)))
+
+  pub members-count : end - start ≡ length (members_at (drop at s))
+  members-count = size_is ∙ sym (length-take (get_or (drop at s) 0 0) (drop 1 (drop at s)))
+
+pub members-reached : (s : List ℕ) (start end : ℕ) → start ≤ length s → end ≤ length s → Reached s start 1 (end - start)
+members-reached s start end h g = record { apart = omega arith; narrow = omega arith; reach = omega (arith, mul-one (end - start)) }
 
 -- ---- rows and their columns
 
@@ -53,6 +60,18 @@ pub record RowsHere (s : List ℕ) (at width : ℕ) (r : Rows) : Type 0 where
   pub wide : r.width ≡ width
   pub count : r.count ≡ get_or (drop at s) 0 0
   pub inside : r.start ≤ length s
+
+-- A column of those rows, of `n` cells, `gap` apart from `first` on: where it starts at most
+pub record ColumnHere (s : List ℕ) (at width first gap n : ℕ) : Type 0 where
+  pub step : gap ≡ width
+  pub apart : 0 < width
+  pub count : n ≡ get_or (drop at s) 0 0
+  pub inside : first ≤ length s
+  pub near : first < at + 1 + width
+
+pub column-here : (s : List ℕ) (at width j first start : ℕ) {i : ℕ} → j < width → first ≤ at + 1 → start ≤ length s → start ≤ first + j
+    → i ≡ get_or (drop at s) 0 0 → ColumnHere s at width start width i
+column-here s at width j first start h p l q e = record { step = refl; apart = omega arith; count = e; inside = l; near = omega arith }
 
 column-spaced : (k w j : ℕ) (l : List ℕ) → j < w → spaced k w (drop j l) ≡ column j (rows_of k w l)
 unfolding spaced column rows_of

@@ -1,5 +1,5 @@
 -- Predicates of a valid table whose blocks are there whole, by positions.
-use Rattle.std.specs.Prelude.{ℕ, ◌+◌, ◌*◌, ◌-◌, ◌≤◌, ◌<◌, min, ◌≡◌, refl, List, length, get_or, drop}
+use Rattle.std.specs.Prelude.{ℕ, ◌+◌, ◌*◌, ◌-◌, ◌≤◌, ◌<◌, ◌≡◌, refl, List, length, get_or, drop}
 use Rattle.std.proofs.Common.{arith, ◌∙◌, length-drop}
 use Rattle.counting.specs.Terms.{Each, Each2}
 use Rattle.counting.proofs.Laws.Members.{each-head, each_tail}
@@ -13,6 +13,7 @@ use Rattle.columns.specs.Reached.{Reached}
 use Rattle.columns.specs.Reach.{wide_room}
 use Rattle.blocks.specs.Blocks.{block_length, contents, pred_width, rows_at, rows_in, population_at}
 use Rattle.blocks.specs.Starts.{Populated, Located, Pending, pending-start, pending-here, pending-wide, pending-more, block-next, starts-preds}
+use Rattle.blocks.specs.Places.{ColumnHere}
 
 -- The predicate at `pred` of the table is there and has few roles, and its rows at `at` of the cells have a cell for each
 pub record PredHere (t s : List ℕ) (pred at : ℕ) : Type 0 where
@@ -29,12 +30,12 @@ pub record Standing (t s starts : List ℕ) (pred k n : ℕ) : Type 0 where
 
 -- ---- the columns of such a predicate are there
 
-pub column-reached : (t s : List ℕ) (pred at j first start : ℕ) {w i : ℕ} → PredHere t s pred at → w ≡ pred_width (pred_of (drop pred t)) → j < w
-    → first ≡ min (at + 1) (length s) → start ≡ min (first + j) (length s) → i ≡ get_or (drop at s) 0 0 → Reached s start w i
-column-reached t s pred at j first start {w} {i} here e h f g q =
+pub column-reached : (t s : List ℕ) (pred at : ℕ) {start step count w : ℕ} → PredHere t s pred at → w ≡ pred_width (pred_of (drop pred t))
+    → ColumnHere s at w start step count → Reached s start step count
+column-reached t s pred at {start} {step} {count} {w} here e h =
     let few : w ≤ 6 = rw e here.few in
     let room : get_or (drop at s) 0 0 * pred_width (pred_of (drop pred t)) ≤ length (drop 1 (drop at s)) = wide_room _ _ _ here.wide in
-    let size : i * w ≡ get_or (drop at s) 0 0 * pred_width (pred_of (drop pred t)) = rw (q, e) in
+    let size : count * step ≡ get_or (drop at s) 0 0 * pred_width (pred_of (drop pred t)) = rw (h.count, h.step, e) in
     record { apart = omega arith; narrow = omega arith; reach = omega (arith, length-drop 1 (drop at s), length-drop at s) }
 
 -- ---- the predicates left have few roles and whole rows

@@ -3,6 +3,7 @@
 
 mod blocks;
 mod methods;
+mod pred_block;
 
 ghost use Rattle.std.specs.Prelude.{◌≡◌, ◌+◌, ◌*◌, ◌≤◌, ◌<◌, length, get_or, drop, replicate};
 ghost use Rattle.std.proofs.lemmas.List.Edits.{sets};
@@ -12,6 +13,7 @@ ghost use Rattle.blocks.specs.Blocks.{block_length, most_cells, population_at, p
 ghost use Rattle.blocks.specs.Starts.{Walk};
 
 pub use blocks::Blocks;
+pub use pred_block::PredBlock;
 
 // How many entries the block at `at` has by its size cell, which reads as 0 where it is missing.
 fn size(cells: &[u32], at: usize) -> usize
@@ -88,6 +90,13 @@ pub fn cut(t: &[u32], cells: &[u32], starts: &mut [usize]) -> Option<usize>
         return Some(cells.len());
     }
     None
+}
+
+// Where the block with this number starts, counted from 0; 0 past the end.
+pub fn block(starts: &[usize], i: usize) -> usize
+    ensures { result ≡ get_or starts.now i 0 }
+{
+    starts.get(i).copied().unwrap_or(0)
 }
 
 // How many roles the predicate at `pred` in the table has.

@@ -1,12 +1,10 @@
 ghost use Rattle.std.specs.Prelude.{◌≡◌, ◌+◌, ◌≤◌, ◌<◌, min, length, get_or, drop};
 ghost use Rattle.counting.specs.Lists.{column};
-ghost use Rattle.table.specs.Positions.{pred_of};
 ghost use Rattle.columns.specs.Values.{values_in};
-ghost use Rattle.blocks.specs.Blocks.{members_at, rows_at, pred_width};
-ghost use Rattle.blocks.specs.Places.{RowsHere};
-ghost use Rattle.blocks.specs.Standing.{PredHere};
+ghost use Rattle.blocks.specs.Blocks.{members_at, rows_at};
+ghost use Rattle.blocks.specs.Places.{RowsHere, ColumnHere};
 
-use crate::{Blocks, size};
+use crate::{Blocks, PredBlock, block, size};
 use columns::{Column, Rows};
 
 // `step` places on from `at`, and no further than the end.
@@ -18,19 +16,13 @@ fn next(cells: &[u32], at: usize, step: usize) -> usize
 }
 
 impl<'a> Blocks<'a> {
-    // Where the block with this number starts, counted from 0; 0 past the end.
-    fn start(&self, k: usize) -> usize
-        ensures { result ≡ get_or self.now.starts.now k 0 }
-    {
-        self.starts.get(k).copied().unwrap_or(0)
-    }
-
     // The members of the type whose block has this number.
     pub fn members(&self, k: usize) -> Column<'a>
         ensures values { values_in result ≡ members_at (drop (get_or self.now.starts.now k 0) self.now.cells.now) }
         ensures count { result.count ≡ length (members_at (drop (get_or self.now.starts.now k 0) self.now.cells.now)) }
+        ensures cells { result.cells.now ≡ self.now.cells.now }
     {
-        let at = self.start(k);
+        let at = block(self.starts, k);
         let start = next(self.cells, at, 1);
         let end = next(self.cells, start, size(self.cells, at));
         Column {
@@ -45,7 +37,7 @@ impl<'a> Blocks<'a> {
     pub fn rows(&self, k: usize, width: usize) -> Rows<'a>
         ensures { RowsHere self.now.cells.now (get_or self.now.starts.now k 0) width result }
     {
-        let at = self.start(k);
+        let at = block(self.starts, k);
         Rows {
             cells: self.cells,
             start: next(self.cells, at, 1),
@@ -53,21 +45,22 @@ impl<'a> Blocks<'a> {
             count: size(self.cells, at),
         }
     }
+}
 
-    // Column j of the rows of the predicate at `pred` in the table, which has so many roles and whose block has this number.
-    pub fn column(&self, k: usize, pred: usize, width: usize, j: usize) -> Column<'a>
-        requires pred_here { PredHere self.now.table.now self.now.cells.now pred (get_or self.now.starts.now k 0) }
-        requires width_value { width ≡ pred_width (pred_of (drop pred self.now.table.now)) }
-        requires j_lt_width { j < width }
-        ensures { values_in result ≡ column j (rows_at width (drop (get_or self.now.starts.now k 0) self.now.cells.now)) }
+impl<'a> PredBlock<'a> {
+    // Column j of its rows.
+    pub fn column(&self, j: usize) -> Column<'a>
+        requires { j < self.now.width }
+        ensures values { values_in result ≡ column j (rows_at self.now.width (drop self.now.at self.now.cells.now)) }
+        ensures cells { result.cells.now ≡ self.now.cells.now }
+        ensures column_here { ColumnHere self.now.cells.now self.now.at self.now.width result.start result.step result.count }
     {
-        let at = self.start(k);
-        let first = next(self.cells, at, 1);
+        let first = next(self.cells, self.at, 1);
         Column {
             cells: self.cells,
             start: next(self.cells, first, j),
-            step: width,
-            count: size(self.cells, at),
+            step: self.width,
+            count: size(self.cells, self.at),
         }
     }
 }

@@ -1,18 +1,17 @@
 // What the roles that a type plays tell: K7, K8 and K11 of each, and which members stand in one. Each column is looked up once.
 #![tactic(auto)]
 
-ghost use Rattle.std.specs.Prelude.{◌≡◌, [], ◌∷◌, ◌+◌, ◌*◌, ◌≤◌, get_or, drop};
+ghost use Rattle.std.specs.Prelude.{◌≡◌, [], ◌∷◌, ◌+◌, ◌*◌, ◌≤◌, drop};
 ghost use Rattle.orm.specs.Constraints.{played};
 ghost use Rattle.faults.specs.Faults.{lowered};
 ghost use Rattle.table.specs.Positions.{wide_role, Walkable};
 ghost use Rattle.columns.specs.Values.{values_in};
 ghost use Rattle.lookup.specs.Counts.{Fresh};
-ghost use Rattle.blocks.specs.Standing.{PredHere};
 ghost use Rattle.blocks.specs.Starts.{Populated};
 ghost use Rattle.playing.specs.Places.{pred_at, rows_here};
 ghost use Rattle.playing.specs.Found.{played_as, told_by, Heard, Found};
 
-use blocks::Blocks;
+use blocks::{Blocks, PredBlock};
 use columns::Column;
 use faults::Faults;
 
@@ -70,38 +69,29 @@ fn role_pass(
     note_role(t, turn.role, met, list.len(), turn.own, faults);
 }
 
-// The predicate at `line` of the table, its number, and the number of its block.
-#[derive(Clone, Copy, Debug, PartialEq, Eq)]
-struct Place {
-    line: usize,
-    own: u32,
-    block: usize,
-}
-
-// The roles of a predicate that the type with this number plays. A predicate has at most 6 roles, so that 8 stamps are enough for each.
+// The roles of the predicate with the number `own` that the type with this number plays. A predicate has at most 6 roles, so that 8
+// stamps are enough for each.
 fn roles_pass(
-    blocks: &Blocks<'_>,
+    pred: &PredBlock<'_>,
     number: u32,
-    pred: Place,
+    own: u32,
     list: &[u32],
     marks: &mut [u32],
     faults: &mut Faults,
 )
-    requires own_bound { pred.own ≤ 96 }
-    requires pred_here { PredHere blocks.now.table.now blocks.now.cells.now pred.line (get_or blocks.now.starts.now pred.block 0) }
-    requires fresh { Fresh list.now marks.old (8 * pred.own) }
-    ensures { Heard number list.now pred.own (played (pred_at blocks.now.table.now pred.line) (rows_here blocks.now.table.now blocks.now.cells.now pred.line (get_or blocks.now.starts.now pred.block 0)))
-        marks.old faults.old.lowest marks.new faults.new.lowest (8 * (pred.own + 1)) }
+    requires own_bound { own ≤ 96 }
+    requires fresh { Fresh list.now marks.old (8 * own) }
+    ensures { Heard number list.now own (played (pred_at pred.now.table.now pred.now.line) (rows_here pred.now.table.now pred.now.cells.now pred.now.line pred.now.at))
+        marks.old faults.old.lowest marks.new faults.new.lowest (8 * (own + 1)) }
 {
-    let t = blocks.table;
-    let w = blocks::width(t, pred.line);
+    let t = pred.table;
     let first = table::roles_at(t, pred.line);
-    for j in 0..w {
-        let values = blocks.column(pred.block, pred.line, w, j);
+    for j in 0..pred.width {
+        let values = pred.column(j);
         let turn = Turn {
             role: first + table::ROLE_WIDTH * j,
-            own: pred.own,
-            stamp: 8 * pred.own + j as u32,
+            own,
+            stamp: 8 * own + j as u32,
         };
         role_pass(t, number, turn, &values, list, marks, faults);
     }
@@ -124,12 +114,14 @@ pub fn preds_pass(
     let types = table::type_count(t) as usize;
     let mut line = table::first_pred(t);
     for i in 0..table::pred_count(t) {
-        let pred = Place {
+        let pred = PredBlock {
+            table: t,
+            cells: blocks.cells,
             line,
-            own: i + 1,
-            block: types + i as usize,
+            at: blocks::block(blocks.starts, types + i as usize),
+            width: blocks::width(t, line),
         };
-        roles_pass(blocks, number, pred, list, marks, faults);
+        roles_pass(&pred, number, i + 1, list, marks, faults);
         line = table::next_pred(t, line);
     }
 }

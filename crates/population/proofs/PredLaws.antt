@@ -9,10 +9,11 @@ use mathlib.Core.List.Memᴰ.{tail as there}
 use mathlib.Core.List.{List, [], ◌∷◌, ◌++◌, map, map-append, flat_map, flatten, append-nil}
 use lib.Dec.{eqb}
 use lib.ListN.{length, get_or, drop, take, length-append, length-map}
+use lib.Seq.{take_all}
 use Rattle.std.specs.Prelude.{sum, All}
 use Rattle.std.proofs.lemmas.List.{take-append-drop}
 use Rattle.std.proofs.lemmas.List.Elements.{All-cons, All-nil}
-use Rattle.std.proofs.Common.{drop-drop, length-take, length-drop}
+use Rattle.std.proofs.Common.{drop-drop}
 use Rattle.std.proofs.lemmas.List.Sums.{sum_by-cons}
 use Rattle.tuples.specs.declared.Step.{Step}
 use Rattle.counting.specs.Lists.{up_from, map_from}
@@ -31,8 +32,8 @@ use Rattle.table.specs.Laws.Cursors.{placed-start, placed-more, placed-none, rea
 use Rattle.table.specs.Valid.{Valid}
 use Rattle.table.specs.Laws.Valid.{valid-walkable}
 use Rattle.table.specs.declared.Cursor.{Cursor}
-use Rattle.tuples.specs.Steps.{steps, Small}
-use Rattle.tuples.specs.StepsLaws.{length-steps}
+use Rattle.tuples.specs.Steps.{padded, steps, Small}
+use Rattle.tuples.specs.StepsLaws.{length-steps, length-padded}
 use Rattle.tuples.specs.Nested.{steps_of_each}
 use Rattle.population.specs.Plan.{cells_at, order, counts, owns, sizes_of, played, column_of, row_by, Narrow, Wants, Planned, SmallArity, AtPredicate}
 use Rattle.population.specs.declared.rows.Plan.{Plan}
@@ -110,25 +111,23 @@ module _ (t c : List ℕ) (x : Cursor) (ready : AtPredicate t c x) where
         few = omega (arith, long, order-few t x ready.few);
       }
 
-each-long : (ws ks s : List ℕ) → length ws ≡ length ks → sum ks ≤ length s → length (steps_of_each ws ks s) ≡ sum ks
+each-long : (ws ks s : List ℕ) → length ws ≡ length ks → length (steps_of_each ws ks s) ≡ sum ks
 unfolding steps_of_each
-each-long [] [] s e h = refl
-each-long [] (k ∷ ks) s e h = absurd (omega arith)
-each-long (w ∷ ws) [] s e h = absurd (omega arith)
-each-long (w ∷ ws) (k ∷ ks) s e h =
-    let all : sum (k ∷ ks) ≡ k + sum ks = sum_by-cons (λ x. x) k ks in
+each-long [] [] s e = refl
+each-long [] (k ∷ ks) s e = absurd (omega arith)
+each-long (w ∷ ws) [] s e = absurd (omega arith)
+each-long (w ∷ ws) (k ∷ ks) s e =
     omega (
       arith,
-      all,
-      length-append (steps w (take k s)) (steps_of_each ws ks (drop k s)),
-      length-steps w (take k s),
-      length-take k s,
-      length-drop k s,
-      each-long ws ks (drop k s) (omega arith) (omega (arith, all, length-drop k s)),
+      sum_by-cons (λ x. x) k ks,
+      length-append (steps w (padded k s)) (steps_of_each ws ks (drop k s)),
+      length-steps w (padded k s),
+      length-padded k s,
+      each-long ws ks (drop k s) (omega arith),
     )
 
 pub each-room : {ws ks sizes : List ℕ} → Wants ws ks sizes → (s : List Step) → length s ≡ 6 → length (steps_of_each ws ks sizes) ≤ length s
-each-room {ws} {ks} {sizes} w s e = omega (arith, each-long ws ks sizes w.counted (omega (arith, w.sized)), w.sized, w.few)
+each-room {ws} {ks} {sizes} w s e = omega (arith, each-long ws ks sizes w.counted, w.sized, w.few)
 
 pub steps-room : (n : ℕ) (sizes : List ℕ) → length sizes ≤ 12 → (s : List Step) → length s ≡ 12 → length (steps n sizes) ≤ length s
 steps-room n sizes h s e = omega (arith, length-steps n sizes)
@@ -172,7 +171,11 @@ module _ {t c types : List ℕ} {x : Cursor} (at_x : AtPredicate t c x) (typed :
   unfolding placed_at
   row_made i =
       let same : (placed_at t x).roles ≡ x.roles = unfold placed_at in refl in
-      rw (r.columns, outer-is, r.role_counts, r.inner_steps, ← same) (row-by (diagram_of t) c (placed_at t x) typed.are i)
+      let few : length (outer c (placed_at t x)) ≤ length (counts (placed_at t x)) =
+      omega (arith, outer-long c (placed_at t x), many-parts c (placed_at t x)) in
+      let all : take (length (counts (placed_at t x))) (outer c (placed_at t x)) ≡ outer c (placed_at t x) =
+      take_all (length (counts (placed_at t x))) (outer c (placed_at t x)) few in
+      rw (r.columns, outer-is, r.role_counts, r.inner_steps, all, ← same) (row-by (diagram_of t) c (placed_at t x) typed.are i)
 
   flat_rows : (is : List ℕ) → flat_map (row_by p) is ≡ flatten (map (row (diagram_of t) c (placed_at t x)) is)
   unfolding flat_map flatten

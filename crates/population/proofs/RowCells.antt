@@ -13,9 +13,9 @@ use Rattle.orm.specs.Sets.{Placed, Part, parts, select, roles_of_type, first_rol
 use Rattle.orm.specs.Supertypes.{first_value}
 use Rattle.orm.specs.Populate.{size, taken_before, part_tuple, parts_of_row, lookup, index_in_row, member_of, row}
 use Rattle.tuples.specs.Steps.{steps, tuple_of}
-use Rattle.tuples.specs.StepsLaws.{length-tuple_of, length-steps, steps-row}
+use Rattle.tuples.specs.StepsLaws.{length-tuple_of, length-steps, steps-row_alone}
 use Rattle.tuples.specs.Nested.{steps_of_each, tuples_in}
-use Rattle.tuples.specs.NestedLaws.{each-steps, each_row}
+use Rattle.tuples.specs.NestedLaws.{each-steps, each_row_alone}
 use Rattle.tuples.specs.declared.Step.{Step}
 use Rattle.population.specs.Plan.{order, counts, owns, sizes_of, position, played, cell_of}
 use Rattle.population.proofs.RoleLaws.{columns_from}
@@ -99,7 +99,7 @@ module _ (c : List ℕ) (x : Placed) where
   module _ (i : ℕ) where
     parts-row : tuple_of outer i ≡ parts_of_row c (parts x) x.own i
     unfolding parts_of_row owns
-    parts-row = steps-row (size c x.own) (owns c x) i
+    parts-row = steps-row_alone (size c x.own) (owns c x) i
 
     parts-long : length (parts_of_row c (parts x) x.own i) ≡ length (parts x)
     parts-long = ap length (sym parts-row) ∙ length-tuple_of outer i ∙ outer-long
@@ -112,12 +112,12 @@ module _ (c : List ℕ) (x : Placed) where
     flat-is =
         ap₂ {C = List ℕ} (λ s k. tuples_in s k (tuple_of outer i)) inner-is (sym counts-are)
         ∙ ap (tuples_in (flat_map (λ (b : Part). steps (want b) (role_sizes b)) (parts x)) (map (λ (b : Part). length (role_sizes b)) (parts x))) parts-row
-        ∙ each_row want role_sizes (parts x) (parts_of_row c (parts x) x.own i) parts-long
+        ∙ each_row_alone want role_sizes (parts x) (parts_of_row c (parts x) x.own i) parts-long
 
   tuple_long : (b : Part) (j : ℕ) → length (part_tuple c b j) ≡ length b.roles
   unfolding part_tuple
   tuple_long b j =
-      ap length (sym (steps-row (want b) (role_sizes b) j)) ∙ length-tuple_of (steps (want b) (role_sizes b)) j
+      ap length (sym (steps-row_alone (want b) (role_sizes b) j)) ∙ length-tuple_of (steps (want b) (role_sizes b)) j
       ∙ length-steps (want b) (role_sizes b) ∙ length-map b.roles (size c)
 
   flat-length : (bs : List Part) (js : List ℕ) → length js ≡ length bs

@@ -4,8 +4,10 @@ use native.Mathlib.Omega.{arith}
 use mathlib.Core.Path.{◌≡◌, refl, sym, ap, ◌∙◌}
 use mathlib.Core.List.{List, [], ◌∷◌, ◌++◌, map, flat_map, append-nil}
 use lib.ListN.{length, drop, take}
+use lib.Seq.{take_all}
 use Rattle.std.specs.Prelude.{sum}
 use Rattle.std.proofs.Common.{length-take-le}
+use Rattle.std.proofs.lemmas.List.{take-take}
 use Rattle.std.proofs.lemmas.List.Sums.{sum_by-take-le}
 use Rattle.counting.specs.Lists.{up_from}
 use Rattle.counting.proofs.Laws.Maps.{flat_map_append}
@@ -51,13 +53,13 @@ sum-within ks n = sum_by-take-le (λ x. x) ks n
 
 -- ---- the row, through scratch
 
-module _ {p : Plan} (planned : Planned p) {i : ℕ} (small : i ≤ 4096) {is is' : List ℕ} (room : length is ≡ 12)
+module _ {p : Plan} (planned : Planned p) (stepped : length p.outer.now ≡ length p.counts.now) {i : ℕ} (small : i ≤ 4096) {is is' : List ℕ} (room : length is ≡ 12)
     (w : Stored is 0 (tuple_of p.outer.now i) is') where
   abbrev pub rows : List ℕ
   rows = take (length p.counts.now) is'
 
   long : length (tuple_of p.outer.now i) ≡ length p.counts.now
-  long = length-tuple_of p.outer.now i ∙ planned.stepped
+  long = length-tuple_of p.outer.now i ∙ stepped
 
   rows-are : rows ≡ tuple_of p.outer.now i
   rows-are = ap (λ m. take m is') (sym long) ∙ stored-front w (omega (arith, long, planned.few, room))
@@ -74,12 +76,18 @@ module _ {p : Plan} (planned : Planned p) {i : ℕ} (small : i ≤ 4096) {is is'
   pub rows-counted : length rows ≤ length p.counts.now
   rows-counted = omega (arith, ap length rows-are, long)
 
+  pub rows-stepped : sum (take (length rows) p.counts.now) ≤ length p.inner.now
+  rows-stepped = omega (arith, sum-within p.counts.now (length rows), planned.there)
+
+  pub rows_roomy : (fs : List ℕ) → length fs ≡ 6 → sum (take (length rows) p.counts.now) ≤ length fs
+  rows_roomy fs e = omega (arith, sum-within p.counts.now (length rows), planned.enough)
+
   module _ {fs fs' : List ℕ} {n : ℕ} (space : length fs ≡ 6) (v : Stored fs 0 (tuples_in p.inner.now p.counts.now rows) fs')
       (en : n ≡ length (tuples_in p.inner.now p.counts.now rows)) where
     few : n ≤ 6
     few =
         let all : sum (take (length rows) p.counts.now) ≡ length (tuples_in p.inner.now p.counts.now rows) =
-        tuples_all p.inner.now p.counts.now rows refl (omega arith) (omega arith) rows-counted planned.there in
+        tuples_all p.inner.now p.counts.now rows refl (omega arith) (omega arith) rows-counted rows-stepped in
         omega (arith, en, all, sum-within p.counts.now (length rows), planned.enough)
 
     pub flat-within : n ≤ length fs'
@@ -95,7 +103,10 @@ module _ {p : Plan} (planned : Planned p) {i : ℕ} (small : i ≤ 4096) {is is'
     flat-under = rw flat-are (tuples-under p.inner.now p.counts.now rows rows-under)
 
     pub row-is : row_by p i ≡ map (cell_of (take n fs')) p.columns.now
-    row-is = sym (ap (λ flat. map (cell_of flat) p.columns.now) (flat-are ∙ ap (tuples_in p.inner.now p.counts.now) rows-are))
+    row-is =
+        let all : take (length p.counts.now) p.outer.now ≡ p.outer.now = take_all (length p.counts.now) p.outer.now (omega (arith, stepped)) in
+        sym (ap (λ flat. map (cell_of flat) p.columns.now)
+        (flat-are ∙ ap (tuples_in p.inner.now p.counts.now) (rows-are ∙ ap (λ s. tuple_of s i) (sym all))))
 
 -- ---- all rows
 
@@ -113,3 +124,17 @@ module _ (p : Plan) where
       ap (flat_map (row_by p)) (up_from_more 0 n) ∙ flat_map_append (row_by p) (up_from 0 n) ((0 + n) ∷ [])
       ∙ ap (λ l. rows_to n ++ l) (append-nil (row_by p (0 + n)))
       ∙ (let e : 0 + n ≡ n = omega arith in ap (λ k. rows_to n ++ row_by p k) e)
+
+-- The same without the steps that stand behind those of the parts: its rows are the same
+abbrev pub shortened : Plan → Plan
+shortened p = record {
+  columns = p.columns;
+  outer = record { ref_ptr = p.outer.ref_ptr; now = take (length p.counts.now) p.outer.now };
+  counts = p.counts;
+  inner = p.inner;
+}
+
+pub rows_shortened : (p : Plan) (n : ℕ) → rows_to p n ≡ rows_to (shortened p) n
+rows_shortened p n =
+    ap (λ (s : List Step). flat_map (λ i. map (cell_of (tuples_in p.inner.now p.counts.now (tuple_of s i))) p.columns.now) (up_from 0 n))
+    (sym (take-take (length p.counts.now) (length p.counts.now) p.outer.now (omega arith)))

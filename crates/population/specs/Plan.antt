@@ -69,9 +69,9 @@ cell_of flat s = s.first + (s.start + get_or flat s.place 0) % s.size
 
 -- ---- rows
 
--- Row `i` from what is prepared: of each column the cell in the row by parts
+-- Row `i` from what is prepared, whatever stands behind the steps of the parts: of each column the cell in the row by parts
 abbrev pub by_parts : Plan → ℕ → List ℕ
-by_parts p i = tuples_in p.inner.now p.counts.now (tuple_of p.outer.now i)
+by_parts p i = tuples_in p.inner.now p.counts.now (tuple_of (take (length p.counts.now) p.outer.now) i)
 
 abbrev pub row_by : Plan → ℕ → List ℕ
 row_by p i = prelude.map (cell_of (by_parts p i)) p.columns.now
@@ -93,7 +93,7 @@ pub record Wants (wants ks sizes : List ℕ) : Type 0 where
 -- What is prepared for a predicate: all of it is there and small
 pub record Planned (p : Plan) : Type 0 where
   pub few : length p.counts.now ≤ 12
-  pub stepped : length p.outer.now ≡ length p.counts.now
+  pub stepped : length p.counts.now ≤ length p.outer.now
   pub there : sum p.counts.now ≤ length p.inner.now
   pub enough : sum p.counts.now ≤ 6
   pub narrow : All Narrow p.columns.now

@@ -2,7 +2,7 @@
 // their sizes, and the steps of their pairing.
 ghost use Rattle.std.specs.Prelude.{◌≡◌, ◌+◌, ◌*◌, ◌≤◌, length, drop};
 ghost use Rattle.orm.specs.Sets.{roles_in_group};
-ghost use Rattle.buffer.specs.Written.{Wrote};
+ghost use Rattle.buffer.specs.Written.{Wrote, WroteAll};
 ghost use Rattle.table.specs.Positions.{role_width, roles_in, Walkable};
 ghost use Rattle.table.specs.Cursors.{placed_at, Here};
 ghost use Rattle.tuples.specs.Steps.{Small};
@@ -96,9 +96,9 @@ pub fn part_sizes(t: &[u32], c: &[u32], x: table::Cursor, space: &mut [u32]) -> 
     requires walkable { Walkable t.now }
     requires small { Small c.now }
     requires here { Here t.now x }
-    requires few { SmallArity t.now x }
-    requires room { length space.old ≡ 12 }
-    ensures { Front (owns c.now (placed_at t.now x)) space.new result }
+    ensures wrote { WroteAll space.old (owns c.now (placed_at t.now x)) space.new result }
+    ensures front { SmallArity t.now x → length space.old ≡ 12
+        → Front (owns c.now (placed_at t.now x)) space.new result }
 {
     let mut out = Output::new(space);
     push_owns(t, c, x, &mut out);

@@ -50,7 +50,7 @@ fn push_cells(columns: &[Column], flat: &[u32], out: &mut Output<'_, u32>)
     }
 }
 
-// Row i; `indices` and `flat` are scratch.
+// Row i, where nothing stands behind the steps of the parts; `indices` and `flat` are scratch.
 fn push_row(
     plan: &Plan<'_>,
     i: u32,
@@ -59,6 +59,7 @@ fn push_row(
     out: &mut Output<'_, u32>,
 )
     requires planned { Planned plan.now }
+    requires stepped { length plan.now.outer.now ≡ length plan.now.counts.now }
     requires i_bound { i ≤ 4096 }
     requires indices_len { length indices.old ≡ 12 }
     requires flat_len { length flat.old ≡ 6 }
@@ -78,7 +79,13 @@ pub fn push_rows(plan: &Plan<'_>, size: u32, out: &mut Output<'_, u32>)
 {
     let mut indices = [0u32; 12];
     let mut flat = [0u32; 6];
+    let plan = Plan {
+        columns: plan.columns,
+        outer: &plan.outer[..plan.counts.len()],
+        counts: plan.counts,
+        inner: plan.inner,
+    };
     for i in 0..size {
-        push_row(plan, i, &mut indices, &mut flat, out);
+        push_row(&plan, i, &mut indices, &mut flat, out);
     }
 }

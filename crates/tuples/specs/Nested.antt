@@ -1,13 +1,12 @@
 -- Several pairings side by side: the steps of all of them one after another, and one row of each.
 use Rattle.std.specs.Prelude.{ℕ, ◌*◌, ◌<◌, List, [], ◌∷◌, ◌++◌, get_or, take, drop}
-use Rattle.tuples.specs.Steps.{steps, tuple_of}
+use Rattle.tuples.specs.Steps.{padded, steps, tuple_of}
 use Rattle.tuples.specs.declared.Step.{Step}
 
 -- The steps of a pairing for each count wanted; how many sets it has stands in `ks`, and their sizes in `s`
 unfoldable pub steps_of_each : List ℕ → List ℕ → List ℕ → List Step
 steps_of_each [] ks s = []
-steps_of_each (w ∷ ws) [] s = []
-steps_of_each (w ∷ ws) (k ∷ ks) s = steps w (take k s) ++ steps_of_each ws ks (drop k s)
+steps_of_each (w ∷ ws) ks s = steps w (padded (get_or ks 0 0) s) ++ steps_of_each ws (drop 1 ks) (drop (get_or ks 0 0) s)
 
 -- One row of each; how many sets a pairing has stands in `ks`
 unfoldable pub tuples_in : List Step → List ℕ → List ℕ → List ℕ

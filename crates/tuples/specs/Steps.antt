@@ -1,7 +1,12 @@
 -- A pairing prepared for its rows: a step for each set, and the row that they give.
-use Rattle.std.specs.Prelude.{ℕ, ◌+◌, ◌*◌, ◌/◌, ◌%◌, min, ◌≤◌, List, [], ◌∷◌, get_or}
+use Rattle.std.specs.Prelude.{ℕ, zero, suc, ◌+◌, ◌*◌, ◌/◌, ◌%◌, min, ◌≤◌, List, [], ◌∷◌, get_or, drop}
 use Rattle.pairing.specs.Pairing.{lcm}
 use Rattle.tuples.specs.declared.Step.{Step}
+
+-- The first `k` numbers of a list, 0 for each that is not there
+unfoldable pub padded : ℕ → List ℕ → List ℕ
+padded zero s = []
+padded (suc k) s = get_or s 0 0 ∷ padded k (drop 1 s)
 
 -- For each further set: how many tuples it is paired with, the least common multiple of that count and its size, and its size
 unfoldable pub steps_from : ℕ → ℕ → List ℕ → List Step

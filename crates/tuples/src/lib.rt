@@ -3,10 +3,10 @@
 // speaks of a diagram.
 #![tactic(auto)]
 
-ghost use Rattle.std.specs.Prelude.{◌≡◌, ◌+◌, ◌*◌, ◌/◌, ◌%◌, ◌≤◌, ◌<◌, min, length, sum};
+ghost use Rattle.std.specs.Prelude.{◌≡◌, ◌+◌, ◌*◌, ◌/◌, ◌%◌, ◌≤◌, ◌<◌, min, length, sum, take, drop};
 ghost use Rattle.pairing.specs.Pairing.{gcd, lcm};
 ghost use Rattle.buffer.specs.Written.{Wrote};
-ghost use Rattle.tuples.specs.Steps.{steps_from, steps, entry_of, before_of, tuple_of, Small};
+ghost use Rattle.tuples.specs.Steps.{padded, steps_from, steps, entry_of, before_of, tuple_of, Small};
 ghost use Rattle.tuples.specs.Stored.{Stored};
 ghost use Rattle.tuples.specs.Nested.{steps_of_each, tuples_in, Indices};
 
@@ -87,16 +87,16 @@ fn kept(want: u32, n: u32, t: u32) -> u32
     want.min(n * t)
 }
 
-// The steps of sets of these sizes, paired with n tuples.
-fn push_steps(want: u32, n: u32, sizes: &[u32], out: &mut Output<'_, Step>)
+// The steps of `count` sets of these sizes, 0 where there is none, paired with n tuples.
+fn push_steps(want: u32, n: u32, sizes: &[u32], count: usize, out: &mut Output<'_, Step>)
     requires small { Small sizes.now }
     requires want_bound { want ≤ 4096 }
     requires n_bound { n ≤ 4096 }
-    ensures { Wrote out.old (steps_from want n sizes.now) out.new }
+    ensures { Wrote out.old (steps_from want n (padded count sizes.now)) out.new }
 {
     let mut tuples = n;
-    for i in 0..sizes.len() {
-        let size = sizes[i];
+    for i in 0..count {
+        let size = sizes.get(i).copied().unwrap_or(0);
         let common = lcm(tuples, size);
         out.push(Step {
             tuples,
@@ -107,17 +107,34 @@ fn push_steps(want: u32, n: u32, sizes: &[u32], out: &mut Output<'_, Step>)
     }
 }
 
+// Prepares the pairing of `count` sets of these sizes, 0 where there is none, to the count wanted.
+fn push_pairing(want: u32, sizes: &[u32], count: usize, out: &mut Output<'_, Step>)
+    requires small { Small sizes.now }
+    requires want_bound { want ≤ 4096 }
+    ensures { Wrote out.old (steps want (padded count sizes.now)) out.new }
+{
+    if count == 0 {
+        return;
+    }
+    out.push(Step::default());
+    let first = sizes.first().copied().unwrap_or(0);
+    push_steps(want, first, behind(sizes, 1), count - 1, out);
+}
+
+// What stands behind the first `n` numbers.
+fn behind(xs: &[u32], n: usize) -> &[u32]
+    ensures { result.now ≡ drop n xs.now }
+{
+    xs.get(n..).unwrap_or_default()
+}
+
 // Prepares the pairing of sets of these sizes to the count wanted.
 pub fn prepare(want: u32, sizes: &[u32], out: &mut Output<'_, Step>)
     requires small { Small sizes.now }
     requires want_bound { want ≤ 4096 }
     ensures { Wrote out.old (steps want sizes.now) out.new }
 {
-    if sizes.is_empty() {
-        return;
-    }
-    out.push(Step::default());
-    push_steps(want, sizes[0], &sizes[1..], out);
+    push_pairing(want, sizes, sizes.len(), out);
 }
 
 impl Step {
@@ -157,19 +174,17 @@ pub fn tuple(steps: &[Step], i: u32, out: &mut [u32], to: usize)
 }
 
 // Prepares a pairing for each count wanted. How many sets each has stands in `counts`, and the
-// sizes of all these sets stand one after another in `sizes`.
+// sizes of all these sets stand one after another in `sizes`; a number that is not there is read as 0.
 pub fn prepare_each(wants: &[u32], counts: &[u32], sizes: &[u32], out: &mut Output<'_, Step>)
     requires small { Small wants.now }
     requires small_2 { Small sizes.now }
-    requires counted { length wants.now ≤ length counts.now }
-    requires sized { sum counts.now ≤ length sizes.now }
     ensures { Wrote out.old (steps_of_each wants.now counts.now sizes.now) out.new }
 {
-    let mut from = 0;
+    let mut rest = sizes;
     for n in 0..wants.len() {
-        let to = from + counts[n] as usize;
-        prepare(wants[n], &sizes[from..to], out);
-        from = to;
+        let count = counts.get(n).copied().unwrap_or(0) as usize;
+        push_pairing(wants[n], rest, count, out);
+        rest = behind(rest, count);
     }
 }
 
@@ -178,8 +193,8 @@ pub fn prepare_each(wants: &[u32], counts: &[u32], sizes: &[u32], out: &mut Outp
 pub fn tuple_each(steps: &[Step], counts: &[u32], rows: &[u32], out: &mut [u32]) -> usize
     requires indices { Indices rows.now }
     requires counted { length rows.now ≤ length counts.now }
-    requires stepped { sum counts.now ≤ length steps.now }
-    requires room { sum counts.now ≤ length out.old }
+    requires stepped { sum (take (length rows.now) counts.now) ≤ length steps.now }
+    requires room { sum (take (length rows.now) counts.now) ≤ length out.old }
     ensures stored { Stored out.old 0 (tuples_in steps.now counts.now rows.now) out.new }
     ensures value { result ≡ length (tuples_in steps.now counts.now rows.now) }
 {

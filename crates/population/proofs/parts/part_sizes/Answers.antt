@@ -3,5 +3,5 @@ use Rattle.population.proofs.Writing.{fronted}
 use Rattle.population.proofs.PartLaws.{owns-room}
 use Rattle.population.proofs.parts.part_sizes.Goals as goal
 
-pub returns : goal.returns
-returns c = fronted c.args.space.now (search rules) (owns-room c.args.t.now c.args.x c.requires.few c.args.space.now c.args.c.now c.requires.room)
+pub returns-clause-front : goal.returns-clause-front
+returns-clause-front c = λ few room. fronted c.args.space.now (search rules) (owns-room c.args.t.now c.args.x few c.args.space.now c.args.c.now room)

@@ -7,17 +7,17 @@ use Rattle.population.proofs.preds.push_pred.Goals as goal
 
 pub row_steps-parts-requires-clause-small : goal.row_steps-parts-requires-clause-small
 row_steps-parts-requires-clause-small c =
-    subst Small (sym c.part_sizes-n.ensures.is) (owns-small c.args.t.now c.args.c.now c.args.x c.requires.at_predicate)
+    subst Small (sym (c.part_sizes-n.ensures.front c.requires.at_predicate.few refl).is) (owns-small c.args.t.now c.args.c.now c.args.x c.requires.at_predicate)
 
 pub role_steps-steps-requires-clause-wants : goal.role_steps-steps-requires-clause-wants
 role_steps-steps-requires-clause-wants c =
-    rw (c.part_sizes-n.ensures.is, c.part_counts-n.ensures.is, c.roles-n.ensures.is)
+    rw ((c.part_sizes-n.ensures.front c.requires.at_predicate.few refl).is, c.part_counts-n.ensures.is, c.roles-n.ensures.is)
     (wanted c.args.t.now c.args.c.now c.args.x c.requires.at_predicate)
 
 pub push_rows-requires-clause-planned : goal.push_rows-requires-clause-planned
 push_rows-requires-clause-planned c =
     planned c.requires.at_predicate c.requires.types
-    (ready c.args.t.now c.args.c.now c.args.types.now c.args.x c.roles-n.ensures.is c.part_sizes-n.ensures.is c.part_counts-n.ensures.is c.size-size.ensures.value
+    (ready c.args.t.now c.args.c.now c.args.types.now c.args.x c.roles-n.ensures.is (c.part_sizes-n.ensures.front c.requires.at_predicate.few refl).is c.part_counts-n.ensures.is c.size-size.ensures.value
     c.columns-width.ensures.is c.row_steps-parts.ensures.is refl c.role_steps-steps.ensures.is)
 
 -- the rows depend on what the plan's slices hold, and not on where these stand
@@ -31,5 +31,5 @@ returns c =
     } in
     wrote_more c.push.ensures c.push_rows.ensures
     (pred-is c.requires.at_predicate c.requires.types {p = p}
-    (ready c.args.t.now c.args.c.now c.args.types.now c.args.x c.roles-n.ensures.is c.part_sizes-n.ensures.is c.part_counts-n.ensures.is c.size-size.ensures.value
+    (ready c.args.t.now c.args.c.now c.args.types.now c.args.x c.roles-n.ensures.is (c.part_sizes-n.ensures.front c.requires.at_predicate.few refl).is c.part_counts-n.ensures.is c.size-size.ensures.value
     c.columns-width.ensures.is c.row_steps-parts.ensures.is refl c.role_steps-steps.ensures.is) c.size-size.ensures.value)

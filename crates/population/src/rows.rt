@@ -39,12 +39,31 @@ fn cell(column: &Column, flat: &[u32]) -> u32
     column.first + tuples::remainder(column.start + index, column.size)
 }
 
-// A row given by parts.
+// The cells of a row given by parts, into a slice of its length.
+fn store_cells(columns: &[Column], flat: &[u32], row: &mut [u32])
+    requires narrow { All Narrow columns.now }
+    requires under { Under 16384 flat.now }
+    requires width { length row.old ≡ length columns.now }
+    ensures { row.new ≡ map (cell_of flat.now) columns.now }
+{
+    for (i, column) in columns.iter().enumerate() {
+        row[i] = cell(column, flat);
+    }
+}
+
+// A row given by parts. That there is room is tested once for all of it; where there is not, once for
+// each cell.
 fn push_cells(columns: &[Column], flat: &[u32], out: &mut Output<'_, u32>)
     requires narrow { All Narrow columns.now }
     requires under { Under 16384 flat.now }
     ensures { Wrote out.old (map (cell_of flat.now) columns.now) out.new }
 {
+    if out.at <= out.buffer.len() && columns.len() <= out.buffer.len() - out.at {
+        let end = out.at + columns.len();
+        store_cells(columns, flat, &mut out.buffer[out.at..end]);
+        out.at = end;
+        return;
+    }
     for column in columns {
         out.push(cell(column, flat));
     }

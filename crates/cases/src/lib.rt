@@ -120,7 +120,7 @@ pub fn push_same(out: &mut Output<'_, u8>, same: bool)
     }
 }
 
-// Prints what was written.
-pub fn print(rt: &impl Print, line: &Output<'_, u8>) -> io::Result<()> {
-    rt.write_all(&line.buffer[..line.at.min(line.buffer.len())])
+// Prints the first n bytes.
+pub fn print(rt: &impl Print, bytes: &[u8], n: usize) -> io::Result<()> {
+    rt.write_all(&bytes[..n.min(bytes.len())])
 }

@@ -23,7 +23,7 @@ pub const MOST_INPUT: usize = 8192;
 const MOST_CELLS: usize = 16000;
 
 // `refused=NUMBER,PLACE,ROUND`
-fn push_numbers(out: &mut Output<'_, u8>, number: usize, place: usize, round: usize)
+pub fn push_refusal(out: &mut Output<'_, u8>, number: usize, place: usize, round: usize)
     ensures { Wrote out.old (refusal_line number place round) out.new }
 {
     out.append(b"refused=");
@@ -33,11 +33,11 @@ fn push_numbers(out: &mut Output<'_, u8>, number: usize, place: usize, round: us
 }
 
 // The line of a refusal.
-pub fn push_refusal(out: &mut Output<'_, u8>, refusal: Refusal)
+pub fn push_refused(out: &mut Output<'_, u8>, refusal: Refusal)
     ensures { Wrote out.old (refused_as refusal) out.new }
 {
     let numbers = refusal.numbers();
-    push_numbers(
+    push_refusal(
         out,
         numbers[0] as usize,
         numbers[1] as usize,
@@ -53,7 +53,7 @@ fn print_cells(t: &[u32], sizes: &[u32], rounds: u32, cells: &mut [u32], out: &m
 {
     match populate::populate_settled(t, sizes, rounds, cells) {
         Ok(written) => report::push_report(out, t, rounds, sizes, &cells[..written.length]),
-        Err(refusal) => push_refusal(out, refusal),
+        Err(refusal) => push_refused(out, refusal),
     }
 }
 
@@ -66,7 +66,7 @@ fn print_valid(t: &[u32], roles: usize, groups: usize, out: &mut Output<'_, u8>)
     let mut cells = [0; MOST_CELLS];
     match bounds::check_valid(t, roles, groups, Start::Own, &mut sizes) {
         Ok(settled) => print_cells(t, &sizes[..settled.length], settled.rounds, &mut cells, out),
-        Err(refusal) => push_refusal(out, refusal),
+        Err(refusal) => push_refused(out, refusal),
     }
 }
 
@@ -77,7 +77,7 @@ fn print_table(table: &[u32], out: &mut Output<'_, u8>)
     let mut wide = [0; MOST_NUMBERS];
     match widening::accept(table, &mut wide) {
         Ok(widened) => print_valid(&wide[..widened.length], widened.roles, widened.groups, out),
-        Err(refusal) => push_refusal(out, refusal),
+        Err(refusal) => push_refused(out, refusal),
     }
 }
 
@@ -88,7 +88,7 @@ fn print_text(text: &[u8], out: &mut Output<'_, u8>)
     let mut table = [0; MOST_NUMBERS];
     match reader::read(text, &mut table) {
         Ok(length) => print_table(&table[..length], out),
-        Err(refusal) => push_refusal(out, refusal),
+        Err(refusal) => push_refused(out, refusal),
     }
 }
 

@@ -29,14 +29,15 @@ fn print_case(rt: &impl Print, file: &mut impl Read) -> io::Result<()> {
     let length = lines.at.min(lines.buffer.len());
     cases::push_joined(&mut line, &lines.buffer[..length]);
     line.push(b'\n');
-    cases::print(rt, &line)
+    let end = line.at;
+    cases::print(rt, &joined, end)
 }
 
 fn push_outcome(lines: &mut Output<'_, u8>, table: &[u32], number: u32) {
     match averages::average(table, number) {
         Ok(AverageUse::Whole { times }) => numerals::push_count(lines, b"whole=", times as usize),
         Ok(AverageUse::Fraction { times }) => push_float(lines, times),
-        Err(refusal) => command::push_refusal(lines, refusal),
+        Err(refusal) => command::push_refused(lines, refusal),
     }
 }
 

@@ -24,7 +24,8 @@ fn print_case(rt: &impl Print, file: &mut impl Read) -> io::Result<()> {
     let mut space = [0; 4096];
     let mut line = Output::new(&mut space);
     push_outcome(&mut line, &table[..t], &cells[..c]);
-    cases::print(rt, &line)
+    let end = line.at;
+    cases::print(rt, &space, end)
 }
 
 fn push_outcome(line: &mut Output<'_, u8>, table: &[u32], cells: &[u32]) {
@@ -33,7 +34,7 @@ fn push_outcome(line: &mut Output<'_, u8>, table: &[u32], cells: &[u32]) {
         Ok(Verdict::Breaks { constraint, number }) => {
             push_broken(line, constraint as usize, number as usize)
         }
-        Err(refusal) => command::push_refusal(line, refusal),
+        Err(refusal) => command::push_refused(line, refusal),
     }
 }
 

@@ -32,7 +32,8 @@ fn print_case(rt: &impl Print, file: &mut impl Read) -> io::Result<()> {
     let length = lines.at.min(lines.buffer.len());
     cases::push_joined(&mut line, &lines.buffer[..length]);
     line.push(b'\n');
-    cases::print(rt, &line)
+    let end = line.at;
+    cases::print(rt, &joined, end)
 }
 
 fn push_outcome(
@@ -48,6 +49,6 @@ fn push_outcome(
             numerals::push_count(lines, b"length=", written.length);
             numerals::push_line(lines, b"cells=", cells, 0, written.length);
         }
-        Err(refusal) => command::push_refusal(lines, refusal),
+        Err(refusal) => command::push_refused(lines, refusal),
     }
 }

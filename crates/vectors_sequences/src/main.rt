@@ -28,7 +28,8 @@ fn print_case(rt: &impl Print, file: &mut impl Read) -> io::Result<()> {
     let length = lines.at.min(lines.buffer.len());
     cases::push_joined(&mut line, &lines.buffer[..length]);
     line.push(b'\n');
-    cases::print(rt, &line)
+    let end = line.at;
+    cases::print(rt, &joined, end)
 }
 
 // The lines of a table.
@@ -40,7 +41,7 @@ fn push_case(lines: &mut Output<'_, u8>, table: &[u32]) {
             numerals::push_line(lines, b"ceilings=", &sizes, 0, length);
             push_check(lines, table);
         }
-        Err(refusal) => command::push_refusal(lines, refusal),
+        Err(refusal) => command::push_refused(lines, refusal),
     }
 }
 
@@ -75,6 +76,6 @@ fn push_check(lines: &mut Output<'_, u8>, table: &[u32]) {
     let mut sizes = [0; 208];
     match bounds::check(table, &mut sizes) {
         Ok(written) => numerals::push_count(lines, b"rounds=", written.rounds as usize),
-        Err(refusal) => command::push_refusal(lines, refusal),
+        Err(refusal) => command::push_refused(lines, refusal),
     }
 }

@@ -23,7 +23,8 @@ fn print_case(rt: &impl Print, file: &mut impl Read) -> io::Result<()> {
     let mut space = [0; 4096];
     let mut line = Output::new(&mut space);
     push_case(&mut line, &table[..n]);
-    cases::print(rt, &line)
+    let end = line.at;
+    cases::print(rt, &space, end)
 }
 
 // The line of a table.
@@ -43,7 +44,7 @@ fn push_form(line: &mut Output<'_, u8>, form: Option<Refusal>, length: usize) {
     let mut said = Output::new(&mut space);
     match form {
         None => numerals::push_count(&mut said, b"accepted=", length),
-        Some(refusal) => command::push_refusal(&mut said, refusal),
+        Some(refusal) => command::push_refused(&mut said, refusal),
     }
     let length = said.at.min(said.buffer.len());
     cases::push_joined(line, &said.buffer[..length]);

@@ -22,7 +22,8 @@ fn print_case(rt: &impl Print, file: &mut impl Read) -> io::Result<()> {
     let mut space = [0; 65536];
     let mut line = Output::new(&mut space);
     push_case(&mut line, &text[..n]);
-    cases::print(rt, &line)
+    let end = line.at;
+    cases::print(rt, &space, end)
 }
 
 // The line of a text.

@@ -1,7 +1,7 @@
--- `command::push_numbers` meets its contract. Its parts are written one after another.
+-- `command::push_refusal` meets its contract. Its parts are written one after another.
 use Rattle.command.proofs.Prints.{refusal_is}
 use Rattle.std.proofs.Common.{rules}
-use Rattle.command.proofs.push_numbers.Goals as goal
+use Rattle.command.proofs.push_refusal.Goals as goal
 
 pub returns : goal.returns
 returns c = search (rules, refusal_is)

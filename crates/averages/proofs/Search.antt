@@ -35,7 +35,7 @@ module _ (t : List ℕ) (number : ℕ) {x : Cursor} where
       record { ahead = ap (λ (ps : List Placed). group_numbered number (flat_map groups_of_placed ps)) (sym (placed-start t e en)); past = h }
 
   module _ {n : ℕ} (s : Searching t number x n) where
-    search_none : n ≤ 0 → owner_of None ≡ wanted t number
+    pub search_none : n ≤ 0 → owner_of None ≡ wanted t number
     unfolding flat_map group_numbered
     search_none h = sym (ap predicate_of (s.ahead ∙ ap (λ (ps : List Placed). group_numbered number (flat_map groups_of_placed ps)) (placed-none t x n h)))
 
@@ -51,13 +51,13 @@ module _ (t : List ℕ) (number : ℕ) {x : Cursor} where
       unfolding placed_at
       last = rw e (ap (x.groups +◌) (group-count (drop x.at t)))
 
-      search_found : number ≤ y.groups → owner_of (Some x.own) ≡ wanted t number
+      pub search_found : number ≤ y.groups → owner_of (Some x.own) ≡ wanted t number
       unfolding placed_at
       search_found l =
           let (g, f, p) = among-groups number (placed_at t x) rest s.past (omega (arith, last)) in
           ap some (sym p) ∙ ap predicate_of (sym (here ∙ f))
 
-      search_more : y.groups < number → Searching t number y (n - 1)
+      pub search_more : y.groups < number → Searching t number y (n - 1)
       search_more l = record { ahead = here ∙ past-groups number (placed_at t x) rest (λ b. omega (arith, last, b.1)); past = l }
 
   -- with the predicates that are passed counted

@@ -32,3 +32,8 @@ pub answered : {T E : Type 0} (r : Result T E) (known a b : Option (List ℕ)) (
 answered (Err e) known a b shown h w = tt
 answered (Ok x) None a b shown h w = tt
 answered (Ok x) (Some xs) a b shown h w = subst (Appends a b) h w
+
+-- What is written is `whole`, where what is shown is
+pub written : {T E : Type 0} (r : Result T E) (a b : Option (List ℕ)) (shown whole : List ℕ) → shown ≡ whole → OnOk r (Appends a b shown)
+    → OnOk r (Appends a b whole)
+written r a b shown whole e w = subst (λ (xs : List ℕ). OnOk r (Appends a b xs)) e w

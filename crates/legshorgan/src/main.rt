@@ -24,8 +24,16 @@ fn answer<R: Read, W: Write>(reader: &mut R, writer: &mut W) -> io::Result<()>
 {
     let mut text = [0; command::MOST_INPUT];
     let n = input::read_full(reader, &mut text)?;
+    write_report(&text[..n], writer)
+}
+
+// Writes what is printed of a text. The array is made behind all reading: where a call of the reader
+// follows its place, it is cleared twice.
+fn write_report<W: Write>(text: &[u8], writer: &mut W) -> io::Result<()>
+    ensures { OnOk result (Appends (W.contents writer.old) (W.contents writer.new) (program text.now)) }
+{
     let mut out = [0; SPACE];
-    let length = report(&text[..n], &mut out);
+    let length = report(text, &mut out);
     writer.write_all(&out[..length])
 }
 

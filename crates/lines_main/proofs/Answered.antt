@@ -20,15 +20,17 @@ front-is xs front rest e most end = go (dec_lt (length front) 4096)
         let long : length front ≡ 4096 = omega (arith, l) in
         sym (take_at front rest 4096 long) ∙ ap (take 4096) (sym e)
 
--- The first `n` bytes of `space` were read into it, and `out` had room for the report on them
-pub read-front : (known left : Option (List ℕ)) (space o out : List ℕ) (n to : ℕ) → Consumes known left (take n space)
-    → (n < length space → IsAtEnd left) → length space ≡ 4096 → n ≤ length space → n ≡ length (take n space) → 65536 ≤ length o
-    → WroteAll o (report (take n space)) out to → IfSome known (λ xs. take to out ≡ report (take 4096 xs))
-read-front None left space o out n to c end long within en room w = tt
-read-front (Some xs) None space o out n to c end long within en room w = absurd c
-read-front (Some xs) (Some rest) space o out n to c end long within en room w =
-    report-whole (take n space) o out to (omega arith) room w
-    ∙ ap report (front-is xs (take n space) rest c (omega arith) (λ l. end (omega arith)))
+-- The first `n` bytes of `space` were read into it
+pub read-front : (known left : Option (List ℕ)) (space : List ℕ) (n : ℕ) → Consumes known left (take n space) → (n < length space → IsAtEnd left)
+    → length space ≡ 4096 → n ≤ length space → n ≡ length (take n space) → IfSome known (λ xs. report (take n space) ≡ report (take 4096 xs))
+read-front None left space n c end long within en = tt
+read-front (Some xs) None space n c end long within en = absurd c
+read-front (Some xs) (Some rest) space n c end long within en = ap report (front-is xs (take n space) rest c (omega arith) (λ l. end (omega arith)))
+
+-- What is written is the whole report on a text, which `out` had room for
+pub written : {T E : Type 0} (r : Result T E) (a b : Option (List ℕ)) (text o out : List ℕ) (to : ℕ) → length text ≤ 4096 → 65536 ≤ length o
+    → WroteAll o (report text) out to → OnOk r (Appends a b (take to out)) → OnOk r (Appends a b (report text))
+written r a b text o out to few room w = subst (λ (xs : List ℕ). OnOk r (Appends a b xs)) (report-whole text o out to few room w)
 
 pub answered : {T E : Type 0} (r : Result T E) (known a b : Option (List ℕ)) (shown : List ℕ) → IfSome known (λ xs. shown ≡ report (take 4096 xs))
     → OnOk r (Appends a b shown) → OnOk r (IfSome known (λ xs. Appends a b (report (take 4096 xs))))

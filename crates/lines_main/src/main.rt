@@ -24,8 +24,17 @@ fn answer<R: Read, W: Write>(reader: &mut R, writer: &mut W) -> io::Result<()>
 {
     let mut text = [0; 4096];
     let n = input::read_full(reader, &mut text)?;
+    write_report(&text[..n], writer)
+}
+
+// Writes the whole report on a text. The array is made behind all reading: where a call of the reader
+// follows its place, it is cleared twice.
+fn write_report<W: Write>(text: &[u8], writer: &mut W) -> io::Result<()>
+    requires { length text.now ≤ 4096 }
+    ensures { OnOk result (Appends (W.contents writer.old) (W.contents writer.new) (report_of text.now)) }
+{
     let mut out = [0; 65536];
-    let length = report(&text[..n], &mut out);
+    let length = report(text, &mut out);
     writer.write_all(&out[..length])
 }
 

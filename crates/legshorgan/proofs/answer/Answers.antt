@@ -5,6 +5,6 @@ use Rattle.legshorgan.proofs.answer.Goals as goal
 
 pub returns : goal.returns
 returns g c =
-    answered c.write_all.result (g.R.Read.remaining c.args.reader.now) _ _ _
-    (read-front _ _ _ _ _ c.in_ok-n.n c.in_ok-n.ensures.bytes c.in_ok-n.ensures.end (search rules) c.in_ok-n.ensures.bound.0 c.in_ok-n.ensures.bound.1 refl c.report-length.ensures.out_after)
-    c.write_all.ensures.bytes
+    answered c.write_report.result (g.R.Read.remaining c.args.reader.now) _ _ _
+    (read-front _ _ _ _ _ c.in_ok-n.n c.in_ok-n.ensures.bytes c.in_ok-n.ensures.end (search rules) c.in_ok-n.ensures.bound.0 c.in_ok-n.ensures.bound.1 refl refl)
+    c.write_report.ensures

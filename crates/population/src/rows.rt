@@ -1,5 +1,5 @@
 // The rows of a predicate, each computed from its index, from what is prepared for the predicate.
-ghost use Rattle.std.specs.Prelude.{◌≡◌, ◌≤◌, length, map, All};
+ghost use Rattle.std.specs.Prelude.{◌≡◌, ◌-◌, ◌≤◌, length, map, All};
 ghost use mathlib.Core.List.{flat_map};
 ghost use Rattle.counting.specs.Lists.{up_from};
 ghost use Rattle.buffer.specs.Written.{Wrote};
@@ -39,15 +39,16 @@ fn cell(column: &Column, flat: &[u32]) -> u32
     column.first + tuples::remainder(column.start + index, column.size)
 }
 
-// The cells of a row given by parts, into a slice of its length.
-fn store_cells(columns: &[Column], flat: &[u32], row: &mut [u32])
+// A row given by parts, where there is room for all of it: no cell needs a test.
+fn store_cells(columns: &[Column], flat: &[u32], out: &mut Output<'_, u32>)
     requires narrow { All Narrow columns.now }
     requires under { Under 16384 flat.now }
-    requires width { length row.old ≡ length columns.now }
-    ensures { row.new ≡ map (cell_of flat.now) columns.now }
+    requires room { length columns.now ≤ length out.old.buffer.now - out.old.at }
+    ensures { Wrote out.old (map (cell_of flat.now) columns.now) out.new }
 {
-    for (i, column) in columns.iter().enumerate() {
-        row[i] = cell(column, flat);
+    for column in columns {
+        out.buffer[out.at] = cell(column, flat);
+        out.at += 1;
     }
 }
 
@@ -58,10 +59,8 @@ fn push_cells(columns: &[Column], flat: &[u32], out: &mut Output<'_, u32>)
     requires under { Under 16384 flat.now }
     ensures { Wrote out.old (map (cell_of flat.now) columns.now) out.new }
 {
-    if out.at <= out.buffer.len() && columns.len() <= out.buffer.len() - out.at {
-        let end = out.at + columns.len();
-        store_cells(columns, flat, &mut out.buffer[out.at..end]);
-        out.at = end;
+    if columns.len() <= out.buffer.len().saturating_sub(out.at) {
+        store_cells(columns, flat, out);
         return;
     }
     for column in columns {

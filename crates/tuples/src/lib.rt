@@ -107,8 +107,8 @@ fn push_steps(want: u32, n: u32, sizes: &[u32], count: usize, out: &mut Output<'
     }
 }
 
-// Prepares the pairing of `count` sets of these sizes, 0 where there is none, to the count wanted.
-fn push_pairing(want: u32, sizes: &[u32], count: usize, out: &mut Output<'_, Step>)
+// Prepares the pairing of `count` sets to the count wanted; a size that is not there is read as 0.
+pub fn push_pairing(want: u32, sizes: &[u32], count: usize, out: &mut Output<'_, Step>)
     requires small { Small sizes.now }
     requires want_bound { want ≤ 4096 }
     ensures { Wrote out.old (steps want (padded count sizes.now)) out.new }
